@@ -1,0 +1,358 @@
+//! Case files: runs and translations on anything a caller might hand in, one
+//! to a line, each answered by one line.
+
+use crate::dots::{count_dots, Sheet};
+use crate::measure::{Measure, LONGEST_STREAM, STACK_ROOM, WIDEST_ROW};
+use crate::plain::translate;
+use crate::reader::OpenSequence;
+use crate::run::run;
+use crate::state::{Position, State};
+use std::fmt::Write as _;
+use std::io::{self, BufRead, Read, Write};
+
+/// A lent buffer is shorter than this.
+const BUFFER_END: u64 = 8_000_000;
+/// A line is at most this long, its end not counted: memory stays bounded on
+/// any input.
+pub const LONGEST_LINE: usize = 33_554_432;
+
+/// Why the cases stopped before the end of the file.
+#[derive(Debug)]
+pub enum CasesStopped {
+    /// The line of this number, from 1, is not of the form.
+    Line(u64),
+    Input(io::Error),
+    Output(io::Error),
+}
+
+/// Runs every case of `input`.
+pub fn run_cases(input: &mut dyn BufRead, out: &mut dyn Write) -> Result<(), CasesStopped> {
+    let mut line = Vec::new();
+    for number in 1u64.. {
+        line.clear();
+        let mut limited = Read::take(&mut *input, LONGEST_LINE as u64 + 1);
+        let length = limited
+            .read_until(b'\n', &mut line)
+            .map_err(CasesStopped::Input)?;
+        if length == 0 {
+            break;
+        }
+        if line.last() == Some(&b'\n') {
+            line.pop();
+        }
+        if line.len() > LONGEST_LINE {
+            return Err(CasesStopped::Line(number));
+        }
+        let text = std::str::from_utf8(&line).map_err(|_| CasesStopped::Line(number))?;
+        let answer = answer_case(text).ok_or(CasesStopped::Line(number))?;
+        writeln!(out, "{number} {answer}").map_err(CasesStopped::Output)?;
+    }
+    Ok(())
+}
+
+/// The answer to one case, without its number; None if it is not of the form.
+pub fn answer_case(line: &str) -> Option<String> {
+    let fields: Vec<&str> = line.split(' ').collect();
+    match fields.as_slice() {
+        ["R", width, height, length, fill, state, place, allowance, stream] => {
+            let (width, height) = (decimal(width)?, decimal(height)?);
+            let case = RunCase {
+                width,
+                height,
+                buffer: filled(length, fill)?,
+                state: parse_state(state, width, height)?,
+                place: decimal(place)?,
+                allowance: decimal(allowance)?,
+                stream: parse_stream(stream)?,
+            };
+            Some(case.answer())
+        }
+        ["T", width, height, room, fill, stream] => {
+            let (width, height) = (decimal(width)?, decimal(height)?);
+            let mut room = filled(room, fill)?;
+            let stream = parse_stream(stream)?;
+            Some(answer_translation(width, height, &mut room, &stream))
+        }
+        _ => None,
+    }
+}
+
+struct RunCase {
+    width: u64,
+    height: u64,
+    buffer: Vec<u8>,
+    state: State,
+    place: u64,
+    allowance: u64,
+    stream: Vec<u8>,
+}
+
+impl RunCase {
+    fn answer(mut self) -> String {
+        let result = run(
+            self.width,
+            self.height,
+            &mut Sheet::new(&mut self.buffer),
+            &self.stream,
+            &mut self.state,
+            &mut self.place,
+            self.allowance,
+        );
+        let state = write_state(&self.state);
+        let hash = fnv1a(&self.buffer);
+        let place = self.place;
+        match result {
+            Err(refusal) => {
+                let code = refusal.number();
+                format!("refused {code} 0 {place} {state} {hash:016x}")
+            }
+            Ok(ran) => {
+                let done = ran.done;
+                let (finding, found_at) = ran
+                    .found
+                    .map_or((0, 0), |found| (found.finding.number(), found.place));
+                let ended = u8::from(ran.page_ended);
+                let dots = self.dots();
+                format!(
+                    "ran {done} {place} {finding} {found_at} {ended} {state} {hash:016x} {dots}"
+                )
+            }
+        }
+    }
+
+    /// Dots on the page's W/8 x H bytes, counted anew from the buffer.
+    fn dots(&self) -> u64 {
+        let page_bytes =
+            Measure::allowed(self.width, self.height).map_or(0, |measure| measure.page_bytes());
+        count_dots(self.buffer.get(..page_bytes).unwrap_or(&[]))
+    }
+}
+
+fn answer_translation(width: u64, height: u64, room: &mut [u8], stream: &[u8]) -> String {
+    match translate(width, height, stream, room) {
+        Err(refusal) => {
+            let code = refusal.number();
+            format!("refused {code} 0 {:016x}", fnv1a(room))
+        }
+        Ok(length) => format!("plain {length} {:016x}", fnv1a(room)),
+    }
+}
+
+/// 64-bit FNV-1a.
+pub fn fnv1a(bytes: &[u8]) -> u64 {
+    bytes.iter().fold(0xcbf2_9ce4_8422_2325, |hash, byte| {
+        (hash ^ u64::from(*byte)).wrapping_mul(0x0000_0100_0000_01b3)
+    })
+}
+
+// ---- fields
+
+/// A decimal number of one or more digits, below 2^64.
+pub fn decimal(text: &str) -> Option<u64> {
+    if text.is_empty() || !text.bytes().all(|byte| byte.is_ascii_digit()) {
+        return None;
+    }
+    text.parse().ok()
+}
+
+fn decimal_32(text: &str) -> Option<u32> {
+    u32::try_from(decimal(text)?).ok()
+}
+
+fn decimal_byte(text: &str) -> Option<u8> {
+    u8::try_from(decimal(text)?).ok()
+}
+
+fn flag(text: &str) -> Option<bool> {
+    match text {
+        "0" => Some(false),
+        "1" => Some(true),
+        _ => None,
+    }
+}
+
+/// Hexadecimal pairs, at least one.
+fn hexadecimal(text: &str) -> Option<Vec<u8>> {
+    if text.is_empty() || text.len() % 2 != 0 {
+        return None;
+    }
+    text.as_bytes()
+        .chunks_exact(2)
+        .map(|pair| match pair {
+            [high, low] => Some(digit(*high)? << 4 | digit(*low)?),
+            _ => None,
+        })
+        .collect()
+}
+
+fn digit(byte: u8) -> Option<u8> {
+    match byte {
+        b'0'..=b'9' => Some(byte - b'0'),
+        b'A'..=b'F' => Some(byte - b'A' + 10),
+        b'a'..=b'f' => Some(byte - b'a' + 10),
+        _ => None,
+    }
+}
+
+/// A lent buffer of this length, every byte of it `fill`.
+fn filled(length: &str, fill: &str) -> Option<Vec<u8>> {
+    let length = decimal(length)?;
+    let fill = hexadecimal(fill)?;
+    match fill.as_slice() {
+        [fill] if length < BUFFER_END => Some(vec![*fill; usize::try_from(length).ok()?]),
+        _ => None,
+    }
+}
+
+/// `-`, hexadecimal pairs, or `xN:HEX`.
+fn parse_stream(text: &str) -> Option<Vec<u8>> {
+    if text == "-" {
+        return Some(Vec::new());
+    }
+    let Some(repeated) = text.strip_prefix('x') else {
+        return hexadecimal(text);
+    };
+    let (length, bytes) = repeated.split_once(':')?;
+    let length = decimal(length)?;
+    let bytes = hexadecimal(bytes)?;
+    // Too long is too long, by one byte or by far: no call looks into such a
+    // stream, so its bytes need not be there.
+    let enough = length.min(LONGEST_STREAM as u64 + 1);
+    let enough = usize::try_from(enough).ok()?;
+    Some(bytes.iter().copied().cycle().take(enough).collect())
+}
+
+/// `-`, the state afresh, or all its members.
+fn parse_state(text: &str, width: u64, height: u64) -> Option<State> {
+    let measure = Measure::allowed(width, height).unwrap_or(Measure::of_the_report());
+    if text == "-" {
+        return Some(State::afresh(&measure));
+    }
+    let members: Vec<&str> = text.split(',').collect();
+    let [x, y, left, right, top, hmi, vmi, termination, resolution, method, started, margin, used, depth, sequence, stack, seed] =
+        members.as_slice()
+    else {
+        return None;
+    };
+    Some(State {
+        x: decimal_32(x)?,
+        y: decimal_32(y)?,
+        left_margin: decimal_32(left)?,
+        right_margin: decimal_32(right)?,
+        top_margin: decimal_32(top)?,
+        hmi: decimal_32(hmi)?,
+        vmi: decimal_32(vmi)?,
+        line_termination: decimal_byte(termination)?,
+        resolution: u16::try_from(decimal(resolution)?).ok()?,
+        method: decimal_byte(method)?,
+        started: flag(started)?,
+        graphics_margin: decimal_32(margin)?,
+        used: flag(used)?,
+        depth: decimal(depth)?,
+        open: parse_sequence(sequence)?,
+        stack: parse_stack(stack)?,
+        seed: parse_seed(seed)?,
+    })
+}
+
+fn parse_sequence(text: &str) -> Option<Option<OpenSequence>> {
+    if text == "-" {
+        return Some(None);
+    }
+    let (first, group) = text.split_once(':')?;
+    Some(Some(OpenSequence {
+        first: decimal_byte(first)?,
+        group: decimal_byte(group)?,
+    }))
+}
+
+fn parse_stack(text: &str) -> Option<[Position; STACK_ROOM]> {
+    let mut stack = [Position::default(); STACK_ROOM];
+    if text == "-" {
+        return Some(stack);
+    }
+    for (place, position) in text.split(';').enumerate() {
+        let (x, y) = position.split_once(':')?;
+        // A 21st position has no place.
+        *stack.get_mut(place)? = Position {
+            x: decimal_32(x)?,
+            y: decimal_32(y)?,
+        };
+    }
+    Some(stack)
+}
+
+fn parse_seed(text: &str) -> Option<[u8; WIDEST_ROW]> {
+    let mut seed = [0; WIDEST_ROW];
+    if text == "-" {
+        return Some(seed);
+    }
+    let bytes = hexadecimal(text)?;
+    seed.get_mut(..bytes.len())?.copy_from_slice(&bytes);
+    Some(seed)
+}
+
+// ---- answers
+
+/// One state has one text: positions and seed bytes that are zero to the end
+/// are left out.
+pub fn write_state(state: &State) -> String {
+    let sequence = match state.open {
+        None => "-".to_string(),
+        Some(OpenSequence { first, group }) => format!("{first}:{group}"),
+    };
+    format!(
+        "{},{},{},{},{},{},{},{},{},{},{},{},{},{},{},{},{}",
+        state.x,
+        state.y,
+        state.left_margin,
+        state.right_margin,
+        state.top_margin,
+        state.hmi,
+        state.vmi,
+        state.line_termination,
+        state.resolution,
+        state.method,
+        u8::from(state.started),
+        state.graphics_margin,
+        u8::from(state.used),
+        state.depth,
+        sequence,
+        write_stack(&state.stack),
+        write_seed(&state.seed)
+    )
+}
+
+/// How many members are left when the zero ones at the end are not written.
+fn kept<T: PartialEq + Default>(members: &[T]) -> usize {
+    members
+        .iter()
+        .rposition(|member| *member != T::default())
+        .map_or(0, |last| last + 1)
+}
+
+fn write_stack(stack: &[Position]) -> String {
+    let positions: Vec<String> = stack
+        .iter()
+        .take(kept(stack))
+        .map(|position| format!("{}:{}", position.x, position.y))
+        .collect();
+    if positions.is_empty() {
+        "-".to_string()
+    } else {
+        positions.join(";")
+    }
+}
+
+fn write_seed(seed: &[u8]) -> String {
+    let mut text = String::new();
+    for byte in seed.iter().take(kept(seed)) {
+        // Writing to a String does not fail.
+        let _ = write!(text, "{byte:02X}");
+    }
+    if text.is_empty() {
+        "-".to_string()
+    } else {
+        text
+    }
+}
