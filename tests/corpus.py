@@ -144,6 +144,9 @@ def main(words):
         print("usage: corpus.py PROGRAM FOLDER", file=sys.stderr)
         return 1
     program, folder = os.path.abspath(words[1]), words[2]
+    if not (os.path.isfile(program) and os.access(program, os.X_OK)):
+        print("the program cannot be run", file=sys.stderr)
+        return 1
     differences = []
 
     def differ(text):
