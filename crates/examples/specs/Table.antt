@@ -1,20 +1,20 @@
 -- Paper 01, "Examples on 640 × 800, afresh unless said": 1 to 14, one table, one claim.
-use Prim.Native.Nat.{ℕ, _*_}
-use mathlib.Core.Bool.{Bool, true, false, _&&_}
-use mathlib.Core.List.{List, [], _∷_, _++_}
+use Prim.Native.Nat.{ℕ, _+_, _*_}
+use mathlib.Core.Bool.{Bool, true, _&&_}
+use mathlib.Core.List.{List, [], _∷_}
 use lib.ListN.{length, take, drop, getD}
 use lib.Count.{ones, onesIn}
 use lib.Dec.{T, eqb}
 use Rattle.common.specs.Lists.{trim}
 use Rattle.common.specs.Bits.{bit, dot, byteOf, onesAll}
 use Rattle.rules.specs.declared.Measure.{Measure}
-use Rattle.rules.specs.declared.Finding.the-variants.{Nothing}
+use Rattle.rules.specs.declared.Finding.the-variants.{EndsInside}
 use Rattle.rules.specs.Findings.{findingNumber}
 use Rattle.rules.specs.Measure.{measureOf}
 use Rattle.rules.specs.States.{freshLayout, freshRaster, freshCore, afresh}
 use Rattle.rules.specs.Number.{digits, places, fraction, size, absolute, relative, value}
 use Rattle.rules.specs.Commands.{among, chosen, usedValue, isNegative}
-use Rattle.rules.specs.Items.{payload, letter, parameter, group, escape, read}
+use Rattle.rules.specs.Items.{payload, letter, parameter, group, behindEscape, read}
 use Rattle.rules.specs.Effects.{pushed, popped, startedAt, effect, barred}
 use Rattle.rules.specs.Codes.{typed, typedAll, coded, escaped}
 use Rattle.rules.specs.Rows.{after, placed, isWhole, changed, byControl, decoded}
@@ -29,6 +29,7 @@ pub data Ask : Type 0 where
   hmi-is : ℕ → Ask
   dots-are : ℕ → Ask  -- on the page being drawn
   dots-in : ℕ → ℕ → Ask  -- of one page row
+  dot-is : ℕ → ℕ → ℕ → Ask  -- at x, y
   seed-is : ℕ → ℕ → Ask  -- of one byte of the seed row
   finding-is : ℕ → ℕ → Ask  -- of one item, counted from 0
   pages-are : ℕ → Ask  -- handed over
@@ -49,8 +50,9 @@ meets t w (y-is n) = eqb (t .state .core .at .y) n
 meets t w (hmi-is n) = eqb (t .state .core .layout .hmi) n
 meets t w (dots-are n) = eqb (onesAll (w .page)) n
 meets t w (dots-in y n) = eqb (onesAll (take 80 (drop (y * 80) (w .page)))) n
+meets t w (dot-is x y n) = eqb (dot (w .page) (y * 640 + x)) n
 meets t w (seed-is i n) = eqb (getD (t .state .core .seed) i 0) n
-meets t w (finding-is i n) = eqb (findingNumber (getD (findingsOf (t .items)) i Nothing)) n
+meets t w (finding-is i n) = eqb (findingNumber (getD (findingsOf (t .items)) i EndsInside)) n
 meets t w (pages-are n) = eqb (length (w .handed)) n
 
 unfoldable pub meetsAll : Trace → World → List Ask → Bool
@@ -105,7 +107,7 @@ table =
     -- 9. &p3X with ESC E A: x 2,160, no reset.
     example (&p (51 ∷ 88 ∷ 27 ∷ 69 ∷ 65 ∷ [])) (x-is 2160 ∷ pages-are 0 ∷ finding-is 0 0 ∷ []) ∷
     -- 10. *b1W, byte 80: 16 dots, rows 187 to 190, y 4,596.
-    example (*b (49 ∷ 87 ∷ 0x80 ∷ [])) (dots-are 16 ∷ dots-in 187 4 ∷ dots-in 188 4 ∷ dots-in 189 4 ∷ dots-in 190 4 ∷ y-is 4596 ∷ []) ∷
+    example (*b (49 ∷ 87 ∷ 0x80 ∷ [])) (dots-are 16 ∷ dots-in 187 4 ∷ dots-in 188 4 ∷ dots-in 189 4 ∷ dots-in 190 4 ∷ dot-is 0 187 1 ∷ dot-is 3 190 1 ∷ y-is 4596 ∷ []) ∷
     -- 11. method 2, FE A5 01 0F F0: A5 A5 A5 0F F0.
     example (eleven []) (seed-is 0 0xA5 ∷ seed-is 1 0xA5 ∷ seed-is 2 0xA5 ∷ seed-is 3 0x0F ∷ seed-is 4 0xF0 ∷ seed-is 5 0 ∷ []) ∷
     -- 12. then method 3, 21 11 22: A5 11 22 0F F0.
@@ -118,5 +120,5 @@ table =
 
 -- every example holds of the rules
 pub examples : T (every table)
-unfolding every table holds meetsAll meets ones onesIn trim bit dot byteOf freshLayout freshRaster freshCore afresh digits places fraction size absolute relative value among chosen usedValue isNegative payload letter parameter group escape read pushed popped startedAt effect barred typed typedAll coded escaped after placed isWhole changed byControl decoded ink inkedByte inkedLine inkedLines painted drawn next nextAll besideAfter endsPage shown show showAll bar gate meanCode meanTwo meanRow meanCommand mean step trace wholeStream actsOf findingsOf acts pages onesAll
+unfolding every table holds meetsAll meets ones onesIn trim bit dot byteOf freshLayout freshRaster freshCore afresh digits places fraction size absolute relative value among chosen usedValue isNegative payload letter parameter group behindEscape read pushed popped startedAt effect barred typed typedAll coded escaped after placed isWhole changed byControl decoded ink inkedByte inkedLine inkedLines painted drawn next nextAll besideAfter endsPage shown show showAll bar gate meanCode meanTwo meanRow meanCommand mean step trace wholeStream actsOf findingsOf acts pages onesAll
 examples = tt

@@ -5,3 +5,5 @@ pub mod Lengths
 pub mod Streams
 pub mod Suffixes
 pub mod Pages
+pub mod Runs
+pub mod Jobs

@@ -12,13 +12,13 @@ use Rattle.common.specs.Lists.{isNil}
 use Rattle.common.proofs.Choices.{choice, choice-by}
 use Rattle.rules.specs.declared.Value.{Value}
 use Rattle.rules.specs.declared.Command.{Command}
-use Rattle.rules.specs.declared.Command.the-variants.{Valued as ValuedC, Method, Print, Row, NotCarried}
+use Rattle.rules.specs.declared.Command.the-variants.{Valued, Method, Print, Row, Unknown}
 use Rattle.rules.specs.declared.Kind.{Kind}
 use Rattle.rules.specs.declared.Sequence.{Sequence}
 use Rattle.rules.specs.declared.Sequence.the-variants.{Closed, Open}
-use Rattle.rules.specs.Number.{Figures, isDigit, digits, places, fraction, size, Valued, absolute, relative, value, sizeOf, hasMinus, wholePart, count}
+use Rattle.rules.specs.Number.{Figures, isDigit, digits, places, fraction, size, ValueRead, absolute, relative, value, sizeOf, hasMinus, wholePart, count}
 use Rattle.rules.specs.Commands.{spells, spelled, methodSpelled, printSpelled, rowSpelled, kinds, among, chosen}
-use Rattle.rules.specs.Items.{Item, text, code, two, command, broken, Reading, hasPayload, payload, letter, parameter, group, escape, isText, read}
+use Rattle.rules.specs.Items.{Item, text, code, two, command, broken, Reading, hasPayload, payload, letter, parameter, group, behindEscape, isText, read}
 use Rattle.rules.specs.Acts.{isClosed}
 
 -- what is left to read: two for each byte, and one for an open sequence, which is closed by an item of its own
@@ -50,7 +50,7 @@ unfolding size
 size-rest s = le-trans (fraction-rest (digits 0 s .number) (digits 0 s .rest)) (digits-rest s 0)
 
 -- a value read is lowered, and leaves no more than n bytes
-record Low (n : ℕ) (v : Valued) : Type 0 where
+record Low (n : ℕ) (v : ValueRead) : Type 0 where
   low : sizeOf (v .value) ≤ 327670000
   short : length (v .rest) ≤ n
 
@@ -72,11 +72,11 @@ value-low (b ∷ s) =
 
 -- the value that a command holds is lowered
 unfoldable pub HoldsLow : Command → Type 0
-HoldsLow (ValuedC k v) = sizeOf v ≤ 327670000
+HoldsLow (Valued k v) = sizeOf v ≤ 327670000
 HoldsLow (Method v) = sizeOf v ≤ 327670000
 HoldsLow (Print v) = sizeOf v ≤ 327670000
 HoldsLow (Row v) = sizeOf v ≤ 327670000
-HoldsLow NotCarried = Unit {0}
+HoldsLow Unknown = Unit {0}
 
 among-low : (l : List Kind) (f g b : ℕ) (v : Value) → sizeOf v ≤ 327670000 → HoldsLow (among l f g b v)
 unfolding among HoldsLow
@@ -145,8 +145,8 @@ unfolding group Bounded Under left
 group-sane f [] = record { under = omega arith; bounded = tt }
 group-sane f (b ∷ s) = choice (Sane (2 * length (b ∷ s))) (within 96 126 b) (more-left (omega arith) (parameter-sane f b s)) (parameter-sane f 0 (b ∷ s))
 
-escape-sane : (s : List ℕ) → Sane (2 * length s) (escape s)
-unfolding escape Bounded Under left
+escape-sane : (s : List ℕ) → Sane (2 * length s) (behindEscape s)
+unfolding behindEscape Bounded Under left
 escape-sane [] = record { under = omega arith; bounded = tt }
 escape-sane (b ∷ s) =
     choice (Sane (2 * length (b ∷ s))) (within 48 126 b) (record { under = omega arith; bounded = tt })

@@ -14,12 +14,12 @@ use Rattle.rules.specs.declared.Value.{Value}
 use Rattle.rules.specs.declared.Value.the-variants.{Absolute, Relative}
 use Rattle.rules.specs.declared.Kind.{Kind}
 use Rattle.rules.specs.declared.Command.{Command}
-use Rattle.rules.specs.declared.Command.the-variants.{Valued, Method, Print, Row, NotCarried}
+use Rattle.rules.specs.declared.Command.the-variants.{Valued, Method, Print, Row, Unknown}
 use Rattle.rules.specs.declared.Code.the-variants.{CarriageReturn, LineFeed, FormFeed, Backspace, Tab}
 use Rattle.rules.specs.declared.Escape.the-variants.{Reset, ClearMargins, HalfLine}
 use Rattle.rules.specs.declared.Sequence.the-variants.{Closed}
 use Rattle.rules.specs.declared.Finding.{Finding}
-use Rattle.rules.specs.declared.Finding.the-variants.{Nothing, EndsInside, CannotStand, NotCarried as NotCarriedFound, NotAllowed, StackLimit, NotNow, DamagedRow}
+use Rattle.rules.specs.declared.Finding.the-variants.{Nothing, EndsInside, CannotStand, NotCarried, NotAllowed, StackLimit, NotNow, DamagedRow}
 use Rattle.rules.specs.declared.Core.{Core}
 use Rattle.rules.specs.declared.Beside.{Beside}
 use Rattle.rules.specs.declared.State.{State}
@@ -42,7 +42,7 @@ pub clean-nothing : (f : Finding) → isClean f ≡ true → f ≡ Nothing
 clean-nothing Nothing e = refl
 clean-nothing EndsInside e = absurd (false≢true e)
 clean-nothing CannotStand e = absurd (false≢true e)
-clean-nothing NotCarriedFound e = absurd (false≢true e)
+clean-nothing NotCarried e = absurd (false≢true e)
 clean-nothing NotAllowed e = absurd (false≢true e)
 clean-nothing StackLimit e = absurd (false≢true e)
 clean-nothing NotNow e = absurd (false≢true e)
@@ -164,7 +164,7 @@ module _ (g : Measure) where
     command-good (Method v) p c m low n h = choice (Fine c) (isNegative whole v) end (choice (Fine c) (leb (wholePart v) 3) end end)
     command-good (Print v) p c m low n h = choice (Fine c) (isNegative whole v) end (gate-good (print p) c m n)
     command-good (Row v) p c m low n h = choice (Fine c) (isNegative whole v) end (row-good p c m h)
-    command-good NotCarried p c m low n h = end
+    command-good Unknown p c m low n h = end
 
     mean-good : (i : Item) (c : Core) (m : Beside) → Bounded i → Long c → Fine c (mean g i c m)
     unfolding mean Bounded Fine Formed

@@ -13,8 +13,8 @@ use Rattle.rules.specs.declared.Value.{Value}
 use Rattle.rules.specs.declared.Sequence.{Sequence}
 use Rattle.rules.specs.declared.Sequence.the-variants.{Closed, Open}
 use Rattle.rules.specs.declared.State.{State}
-use Rattle.rules.specs.Number.{Figures, isDigit, digits, places, fraction, size, Valued, absolute, relative, value, count}
-use Rattle.rules.specs.Items.{Reading, hasPayload, payload, letter, parameter, group, escape, isText, read}
+use Rattle.rules.specs.Number.{Figures, isDigit, digits, places, fraction, size, ValueRead, absolute, relative, value, count}
+use Rattle.rules.specs.Items.{Reading, hasPayload, payload, letter, parameter, group, behindEscape, isText, read}
 use Rattle.rules.specs.Acts.{step}
 
 -- r is the end of s
@@ -79,8 +79,8 @@ value-suffix : (s : List ℕ) → Suffix (value s .rest) s
 unfolding value absolute relative
 value-suffix [] = size-suffix []
 value-suffix (b ∷ s) =
-    choice (λ (v : Valued). Suffix (v .rest) (b ∷ s)) (eqb b 43) {a = relative false (size s)} (there (size-suffix s))
-    (choice (λ (v : Valued). Suffix (v .rest) (b ∷ s)) (eqb b 45) {a = relative true (size s)} {b = absolute (size (b ∷ s))} (there (size-suffix s))
+    choice (λ (v : ValueRead). Suffix (v .rest) (b ∷ s)) (eqb b 43) {a = relative false (size s)} (there (size-suffix s))
+    (choice (λ (v : ValueRead). Suffix (v .rest) (b ∷ s)) (eqb b 45) {a = relative true (size s)} {b = absolute (size (b ∷ s))} (there (size-suffix s))
     (size-suffix (b ∷ s)))
 
 abbrev Leaves : List ℕ → Reading → Type 0
@@ -107,8 +107,8 @@ unfolding group
 group-leaves f [] = here
 group-leaves f (b ∷ s) = choice (Leaves (b ∷ s)) (within 96 126 b) (there (parameter-leaves f b s)) (parameter-leaves f 0 (b ∷ s))
 
-escape-leaves : (s : List ℕ) → Leaves s (escape s)
-unfolding escape
+escape-leaves : (s : List ℕ) → Leaves s (behindEscape s)
+unfolding behindEscape
 escape-leaves [] = here
 escape-leaves (b ∷ s) =
     choice (Leaves (b ∷ s)) (within 48 126 b) (there here)

@@ -18,18 +18,18 @@ use Rattle.rules.specs.declared.Value.the-variants.{Absolute, Relative}
 use Rattle.rules.specs.declared.Kind.{Kind}
 use Rattle.rules.specs.declared.Kind.the-variants.{Column, DecipointAcross, DotAcross, DecipointDown, DotDown, Line, LeftMargin, RightMargin, TopMargin, Vmi, LinesPerInch, Hmi, Termination, PushPop, Resolution, StartRaster, EndRaster, ResetRaster, SkipRows}
 use Rattle.rules.specs.declared.Command.{Command}
-use Rattle.rules.specs.declared.Command.the-variants.{Valued as ValuedC, Print, Row}
+use Rattle.rules.specs.declared.Command.the-variants.{Valued, Print, Row}
 use Rattle.rules.specs.declared.Code.the-variants.{CarriageReturn, LineFeed, FormFeed, Backspace, Tab}
 use Rattle.rules.specs.declared.Escape.the-variants.{Reset, ClearMargins, HalfLine}
 use Rattle.rules.specs.declared.Sequence.the-variants.{Closed}
 use Rattle.rules.specs.declared.Finding.the-variants.{Nothing}
 use Rattle.rules.specs.declared.Core.{Core}
 use Rattle.rules.specs.States.{besideOf}
-use Rattle.rules.specs.Number.{Valued, valued, value, sizeOf, count}
+use Rattle.rules.specs.Number.{ValueRead, valued, value, sizeOf, count}
 use Rattle.rules.specs.Commands.{Spelling, spelling, spelled, printSpelled, rowSpelled, among, chosen, Use, position, full, whole, ignored, useOf, usedValue, isNegative}
-use Rattle.rules.specs.Items.{Item, text, code, two, command, Reading, reading, hasPayload, payload, letter, parameter, group, escape as escapeBytes, isText, read}
+use Rattle.rules.specs.Items.{Item, text, code, two, command, Reading, reading, hasPayload, payload, letter, parameter, group, behindEscape, isText, read}
 use Rattle.rules.specs.Rows.{decoded, zeroRow}
-use Rattle.rules.specs.Acts.{Act, type, control, escape, order, print, draw, bar, gate, besideAfter, isReset, meaning, meanCode, meanTwo, meanRow, meanCommand, mean}
+use Rattle.rules.specs.Acts.{Act, type, control, escape, order, print, draw, bar, gate, besideAfter, isResetRaster, meaning, meanCode, meanTwo, meanRow, meanCommand, mean}
 use Rattle.rules.specs.Plain.{decimal, putValue, isIgnored, putUsed, put}
 use Rattle.theorems.specs.Plainly.{itemOf}
 use Rattle.theorems.proofs.Numbers.{Ends, value-put, value-count, value-none}
@@ -80,7 +80,7 @@ spells SkipRows = (refl, refl, refl, refl, (refl, refl, refl, refl))
 
 -- a kind's own bytes name it, and it has no payload
 record Found (k : Kind) (v : Value) : Type 0 where
-  is : chosen (spelled k .first) (spelled k .group) (spelled k .letter) v ≡ ValuedC k v
+  is : chosen (spelled k .first) (spelled k .group) (spelled k .letter) v ≡ Valued k v
   bare : hasPayload (spelled k .first) (spelled k .group) (spelled k .letter) ≡ false
 
 found : (k : Kind) (v : Value) → Found k v
@@ -107,11 +107,11 @@ found SkipRows v = record { is = refl; bare = refl }
 
 -- what is read behind ESC, a first byte and a group byte
 start-read : (p : Spelling) (n : List ℕ) → Spells p → read Closed (27 ∷ p .first ∷ p .group ∷ n) ≡ parameter (p .first) (p .group) n
-unfolding read escapeBytes group
+unfolding read behindEscape group
 start-read p n q = rw (q .0, q .1, q .2)
 
 -- a command without payload
-bare-read : (k : Kind) (v : Value) (n s : List ℕ) → value n ≡ valued v (spelled k .letter ∷ s) → parameter (spelled k .first) (spelled k .group) n ≡ reading (command (ValuedC k v) []) Closed s
+bare-read : (k : Kind) (v : Value) (n s : List ℕ) → value n ≡ valued v (spelled k .letter ∷ s) → parameter (spelled k .first) (spelled k .group) n ≡ reading (command (Valued k v) []) Closed s
 unfolding parameter letter payload
 bare-read k v n s q = rw (q, spells k .3, found k v .bare, found k v .is)
 
@@ -140,7 +140,7 @@ counted-read p k b s h q y c =
 
 -- what is written of an act, in front of anything, is read as its item, and no more is taken
 pub read-put : (w : ℕ) (a : Act) (s : List ℕ) → Formed w a → read Closed (put a s) ≡ reading (itemOf a) Closed s
-unfolding Formed put itemOf read escapeBytes
+unfolding Formed put itemOf read behindEscape
 read-put w (type b) s t = rw (not-esc b t, t)
 read-put w (control CarriageReturn) s t = refl
 read-put w (control LineFeed) s t = refl
@@ -161,7 +161,7 @@ read-put w (draw row) s t =
 module _ (g : Measure) where
   mean-order : (k : Kind) (v : Value) (c : Core) → AsUsed k v → bar g (order k v) c ≡ Nothing → mean g (itemOf (order k v)) c (besideOf 0) ≡ meaning (order k v ∷ []) Nothing (besideOf 0)
   unfolding itemOf mean meanCommand gate besideAfter
-  mean-order k v c u e = rw (u .fine, u .same, e) (ap (λ m. meaning (order k v ∷ []) Nothing m) (choice (λ n. n ≡ besideOf 0) (isReset k) refl refl))
+  mean-order k v c u e = rw (u .fine, u .same, e) (ap (λ m. meaning (order k v ∷ []) Nothing m) (choice (λ n. n ≡ besideOf 0) (isResetRaster k) refl refl))
 
   -- the item of an act that nothing bars means that act, with no finding; the method stays 0
   pub mean-item : (a : Act) (c : Core) → Formed (g .wide) a → bar g a c ≡ Nothing → mean g (itemOf a) c (besideOf 0) ≡ meaning (a ∷ []) Nothing (besideOf 0)
