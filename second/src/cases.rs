@@ -7,11 +7,10 @@ use crate::plain::translate;
 use crate::reader::OpenSequence;
 use crate::run::run;
 use crate::state::{Position, State};
-use std::fmt::Write as _;
 use std::io::{self, BufRead, Read, Write};
 
 /// A lent buffer is shorter than this.
-const BUFFER_END: u64 = 8_000_000;
+pub const BUFFER_END: u64 = 8_000_000;
 /// A line is at most this long, its end not counted: memory stays bounded on
 /// any input.
 pub const LONGEST_LINE: usize = 33_554_432;
@@ -27,6 +26,18 @@ pub enum CasesStopped {
 
 /// Runs every case of `input`.
 pub fn run_cases(input: &mut dyn BufRead, out: &mut dyn Write) -> Result<(), CasesStopped> {
+    answer_lines(input, out, |number, line| {
+        Some(format!("{number} {}", answer_case(line)?))
+    })
+}
+
+/// Writes the answer to every line of `input`. `answer` is handed the line's
+/// number, from 1, and the line; it gives None if the line is not of the form.
+pub fn answer_lines(
+    input: &mut dyn BufRead,
+    out: &mut dyn Write,
+    answer: impl Fn(u64, &str) -> Option<String>,
+) -> Result<(), CasesStopped> {
     let mut line = Vec::new();
     for number in 1u64.. {
         line.clear();
@@ -44,8 +55,10 @@ pub fn run_cases(input: &mut dyn BufRead, out: &mut dyn Write) -> Result<(), Cas
             return Err(CasesStopped::Line(number));
         }
         let text = std::str::from_utf8(&line).map_err(|_| CasesStopped::Line(number))?;
-        let answer = answer_case(text).ok_or(CasesStopped::Line(number))?;
-        writeln!(out, "{number} {answer}").map_err(CasesStopped::Output)?;
+        let mut answer = answer(number, text).ok_or(CasesStopped::Line(number))?;
+        answer.push('\n');
+        out.write_all(answer.as_bytes())
+            .map_err(CasesStopped::Output)?;
     }
     Ok(())
 }
@@ -155,11 +168,13 @@ pub fn decimal(text: &str) -> Option<u64> {
     text.parse().ok()
 }
 
-fn decimal_32(text: &str) -> Option<u32> {
+/// The same below 2^32.
+pub fn decimal_32(text: &str) -> Option<u32> {
     u32::try_from(decimal(text)?).ok()
 }
 
-fn decimal_byte(text: &str) -> Option<u8> {
+/// The same below 256.
+pub fn decimal_byte(text: &str) -> Option<u8> {
     u8::try_from(decimal(text)?).ok()
 }
 
@@ -172,17 +187,34 @@ fn flag(text: &str) -> Option<bool> {
 }
 
 /// Hexadecimal pairs, at least one.
-fn hexadecimal(text: &str) -> Option<Vec<u8>> {
+pub fn hexadecimal(text: &str) -> Option<Vec<u8>> {
     if text.is_empty() || text.len() % 2 != 0 {
         return None;
     }
-    text.as_bytes()
-        .chunks_exact(2)
-        .map(|pair| match pair {
-            [high, low] => Some(digit(*high)? << 4 | digit(*low)?),
-            _ => None,
-        })
-        .collect()
+    let mut bytes = Vec::with_capacity(text.len() / 2);
+    for pair in text.as_bytes().chunks_exact(2) {
+        let &[high, low] = pair else {
+            return None;
+        };
+        bytes.push(digit(high)? << 4 | digit(low)?);
+    }
+    Some(bytes)
+}
+
+/// Hexadecimal pairs, `-` for none.
+pub fn hexadecimal_or_none(text: &str) -> Option<Vec<u8>> {
+    if text == "-" {
+        return Some(Vec::new());
+    }
+    hexadecimal(text)
+}
+
+/// The byte, if it is the only one.
+pub fn one_byte(bytes: &[u8]) -> Option<u8> {
+    match bytes {
+        [byte] => Some(*byte),
+        _ => None,
+    }
 }
 
 fn digit(byte: u8) -> Option<u8> {
@@ -197,11 +229,11 @@ fn digit(byte: u8) -> Option<u8> {
 /// A lent buffer of this length, every byte of it `fill`.
 fn filled(length: &str, fill: &str) -> Option<Vec<u8>> {
     let length = decimal(length)?;
-    let fill = hexadecimal(fill)?;
-    match fill.as_slice() {
-        [fill] if length < BUFFER_END => Some(vec![*fill; usize::try_from(length).ok()?]),
-        _ => None,
+    let fill = one_byte(&hexadecimal(fill)?)?;
+    if length >= BUFFER_END {
+        return None;
     }
+    Some(vec![fill; usize::try_from(length).ok()?])
 }
 
 /// `-`, hexadecimal pairs, or `xN:HEX`.
@@ -319,7 +351,7 @@ pub fn write_state(state: &State) -> String {
         state.depth,
         sequence,
         write_stack(&state.stack),
-        write_seed(&state.seed)
+        write_bytes(&state.seed)
     )
 }
 
@@ -344,15 +376,19 @@ fn write_stack(stack: &[Position]) -> String {
     }
 }
 
-fn write_seed(seed: &[u8]) -> String {
-    let mut text = String::new();
-    for byte in seed.iter().take(kept(seed)) {
-        // Writing to a String does not fail.
-        let _ = write!(text, "{byte:02X}");
+/// Capital hexadecimal pairs up to the last byte that is not zero, `-` if there
+/// is none.
+pub fn write_bytes(bytes: &[u8]) -> String {
+    const DIGITS: &[u8; 16] = b"0123456789ABCDEF";
+    let length = kept(bytes);
+    if length == 0 {
+        return "-".to_string();
     }
-    if text.is_empty() {
-        "-".to_string()
-    } else {
-        text
+    let mut text = String::with_capacity(2 * length);
+    for byte in bytes.iter().take(length) {
+        for half in [byte >> 4, byte & 15] {
+            text.push(char::from(DIGITS[usize::from(half)]));
+        }
     }
+    text
 }

@@ -15,7 +15,8 @@ pub fn paint_row(
     top: usize,
     size: usize,
 ) {
-    if row_bytes == 0 || !(1..=4).contains(&size) {
+    // No page row is reached below the page's end, however wide the row.
+    if row_bytes == 0 || top >= height || !(1..=4).contains(&size) {
         return;
     }
     let line = widened_line(row_bytes, row, left, size);

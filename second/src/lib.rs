@@ -9,6 +9,7 @@
 pub mod cases;
 pub mod commands;
 pub mod dots;
+pub mod leaves;
 pub mod measure;
 pub mod number;
 pub mod plain;

@@ -3,6 +3,7 @@
 #![forbid(unsafe_code)]
 
 use second::cases::{run_cases, CasesStopped};
+use second::leaves::run_leaves;
 use second::measure::{Measure, LONGEST_STREAM};
 use second::plain::translate;
 use second::report::{write_pages, write_report, write_trace, Stopped, LONGEST_REPORT_INPUT};
@@ -12,7 +13,7 @@ use std::fs::File;
 use std::io::{self, BufRead, BufReader, BufWriter, Read, Write};
 use std::process::ExitCode;
 
-const USAGE: &str = "usage: report | pages W H | plain W H | trace W H | cases FILE";
+const USAGE: &str = "usage: report | pages W H | plain W H | trace W H | cases FILE | leaves FILE";
 
 /// Everything that does not end with exit status 0.
 enum Failure {
@@ -70,10 +71,11 @@ fn command(words: &[OsString]) -> Result<(), Failure> {
         (Some("pages"), [width, height]) => pages(measure(width, height)?),
         (Some("plain"), [width, height]) => plain(measure(width, height)?),
         (Some("trace"), [width, height]) => trace(measure(width, height)?),
-        (Some("cases"), [file]) => cases(file),
-        (Some("report" | "pages" | "plain" | "trace" | "cases"), _) => Err(Failure::Fault(
-            format!("too few or too many words; {USAGE}"),
-        )),
+        (Some("cases"), [file]) => answer_file(file, run_cases),
+        (Some("leaves"), [file]) => answer_file(file, run_leaves),
+        (Some("report" | "pages" | "plain" | "trace" | "cases" | "leaves"), _) => Err(
+            Failure::Fault(format!("too few or too many words; {USAGE}")),
+        ),
         _ => Err(Failure::Fault(format!("a word is wrong; {USAGE}"))),
     }
 }
@@ -171,15 +173,17 @@ fn plain(measure: Option<Measure>) -> Result<(), Failure> {
         .map_err(cannot_write)
 }
 
-fn cases(file: &OsString) -> Result<(), Failure> {
+/// Answers the cases of a file, one to a line.
+type AnswerCases = fn(&mut dyn BufRead, &mut dyn Write) -> Result<(), CasesStopped>;
+
+fn answer_file(file: &OsString, answer_cases: AnswerCases) -> Result<(), Failure> {
     let mut out = output();
     let result = if file == "-" {
-        run_cases(&mut io::stdin().lock(), &mut out)
+        answer_cases(&mut io::stdin().lock(), &mut out)
     } else {
         let opened = File::open(file)
             .map_err(|error| Failure::Fault(format!("cannot read the file of cases: {error}")))?;
-        let mut reader: Box<dyn BufRead> = Box::new(BufReader::with_capacity(1 << 16, opened));
-        run_cases(&mut *reader, &mut out)
+        answer_cases(&mut BufReader::with_capacity(1 << 16, opened), &mut out)
     };
     // The answers before a bad line are good, and are written.
     let flushed = out.flush();

@@ -44,6 +44,15 @@ pub enum Piece {
     Broken(Broken),
 }
 
+/// Whether a byte outside of sequences is a control code: all below space, and
+/// 127. Space and all others are text bytes.
+pub fn is_code(byte: u8) -> bool {
+    match byte {
+        0..=31 | 127 => true,
+        32..=126 | 128..=255 => false,
+    }
+}
+
 /// One item: its piece, the bytes it takes, the sequence it leaves open.
 #[derive(Clone, PartialEq, Eq, Debug)]
 pub struct Item {

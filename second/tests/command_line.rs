@@ -147,7 +147,7 @@ fn refusals_of_the_words() {
 
 #[test]
 fn faults_of_the_words() {
-    let faults: [&[&str]; 20] = [
+    let faults: [&[&str]; 24] = [
         &[],
         &[""],
         &["reports"],
@@ -168,6 +168,10 @@ fn faults_of_the_words() {
         &["cases", "a", "b"],
         &["cases", "no-such-file-of-cases"],
         &["cases", "."],
+        &["leaves"],
+        &["leaves", "a", "b"],
+        &["leaves", "no-such-file-of-cases"],
+        &["leaves", "."],
     ];
     for words in faults {
         let (status, out, error) = call(words, b"A");
@@ -184,4 +188,23 @@ fn cases_from_standard_input() {
     assert_eq!(out, "1 plain 0 cbf29ce484222325\n");
     assert_eq!(error, "second: line 2 is not of the form of a case\n");
     assert_eq!(call(&["cases", "-"], b""), (0, vec![], String::new()));
+}
+
+#[test]
+fn leaves_from_standard_input_and_from_a_file() {
+    let input = b"V 0 2D30\nN 2 12500\nV 0\nN 0 0\n";
+    let (status, out, error) = call_for_text(&["leaves", "-"], input);
+    assert_eq!((status, out.as_str()), (1, "2 0 2\n-1.25\n"));
+    assert_eq!(error, "second: line 3 is not of the form of a case\n");
+    assert_eq!(call(&["leaves", "-"], b""), (0, vec![], String::new()));
+    // Bytes that are no text.
+    let (status, out, error) = call_for_text(&["leaves", "-"], b"\xFF\x00\x80");
+    assert_eq!((status, out.as_str()), (1, ""));
+    assert_eq!(error, "second: line 1 is not of the form of a case\n");
+    let name = format!("second-leaves-{}", std::process::id());
+    let file = std::env::temp_dir().join(name);
+    std::fs::write(&file, b"I 0 0 0 1B45\nD 0 1 - 0A").expect("a file");
+    let answer = call_for_text(&["leaves", file.to_str().expect("text")], b"");
+    std::fs::remove_file(&file).expect("the file removed");
+    assert_eq!(answer, (0, "2 2 0 0 69\n1 0A\n".to_string(), String::new()));
 }

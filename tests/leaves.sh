@@ -1,0 +1,31 @@
+#!/usr/bin/env bash
+# The proved leaves against the second program: leaves.sh [COUNT [SEED]] runs COUNT cases of each kind (values, items, rows,
+# paintings, numbers written) through both and compares what they say. Exit status 1 on any difference.
+set -eu
+cd "$(dirname "$0")/.."
+export LC_ALL=C
+count=${1:-5000} seed=${2:-1}
+
+. tests/need.sh
+. tests/x86.sh
+need python3 python3
+room=$(mktemp -d)
+trap 'rm -rf "$room"' EXIT
+
+(cd second && cargo build --release --offline --quiet)
+rt staticlib leaves >"$room/said" 2>&1 || { cat "$room/said" >&2; exit 1; }
+x86_cc -O2 -Wall -Wextra tests/leaves.c target/staticlib/libleaves.a -o "$room/leaves"
+
+failed=0
+for kind in V I D P N; do
+  python3 tests/leafcases.py "$kind" "$count" "$seed" >"$room/cases"
+  [ "$(wc -l <"$room/cases")" -eq "$count" ] || { echo "leaves: $kind: the generator wrote another number of cases" >&2; exit 1; }
+  x86_run "$room/leaves" "$room/cases" >"$room/proved"
+  second/target/release/second leaves "$room/cases" >"$room/second"
+  [ "$(wc -l <"$room/second")" -eq "$count" ] || { echo "leaves: $kind: the second program wrote another number of lines" >&2; exit 1; }
+  differ=$(paste -d '|' "$room/cases" "$room/proved" "$room/second" | awk -F '|' '$2 != $3' | tee "$room/differ" | wc -l)
+  echo "leaves: $kind: $count cases, $differ differences"
+  head -n 5 "$room/differ" | cut -c 1-300
+  [ "$differ" -eq 0 ] || failed=1
+done
+exit "$failed"
