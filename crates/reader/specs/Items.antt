@@ -1,0 +1,107 @@
+-- An item of the rules, found at a place of the stream: payload is a part of it, from a place up to another.
+use mathlib.Core.Path.{_≡_}
+use mathlib.Core.Bool.{cond, _&&_}
+use mathlib.Core.List.{List}
+use Prim.Native.Nat.{ℕ, _+_, _-_, _≤_, max}
+use lib.Dec.{ltb}
+use lib.ListN.{length, take, drop}
+use Rattle.common.specs.Choice.{within}
+use Rattle.rules.specs.declared.Value.{Value}
+use Rattle.rules.specs.declared.Sequence.{Sequence}
+use Rattle.rules.specs.declared.Sequence.the-variants.{Closed, Open}
+use Rattle.rules.specs.declared.Command.{Command}
+use Rattle.rules.specs.declared.Command.the-variants.{Valued, Method, Print, Row, Unknown}
+use Rattle.rules.specs.Number.{sizeOf, count}
+use Rattle.rules.specs.Items as rule
+use Rattle.rules.specs.Items.{Reading, read}
+use Rattle.reader.specs.declared.Item.{Item}
+use Rattle.reader.specs.declared.Item.the-variants as found
+use Rattle.reader.specs.declared.ReadItem.{ReadItem}
+use Rattle.reader.specs.declared.Ending.{Ending}
+use Rattle.reader.specs.declared.Ending.the-variants.{Letter, NoLetter}
+
+-- an item that ends at n: its payload is what lies before n
+abbrev pub itemTo : ℕ → rule.Item → Item
+itemTo n (rule.text b) = found.Text b
+itemTo n (rule.code b) = found.Code b
+itemTo n (rule.two b) = found.Two b
+itemTo n (rule.command k p) = found.Command k (n - length p) n
+itemTo n (rule.broken f) = found.Broken f
+
+-- what is read up to n
+abbrev pub readTo : ℕ → Reading → ReadItem
+readTo n r = record { item = itemTo n (r .item); sequence = r .sequence; next = n }
+
+-- what is read of a stream of n bytes: it ends where what is left begins
+abbrev pub upTo : ℕ → Reading → ReadItem
+upTo n r = readTo (n - length (r .rest)) r
+
+-- the item at a place of the stream, read with the sequence that is open there
+unfoldable pub readAt : List ℕ → ℕ → Sequence → ReadItem
+readAt s at q = let r = read q (drop at s) in readTo (at + (length (drop at s) - length (r .rest))) r
+
+-- the item of the rules that an item of the stream s stands for: payload is the part of s
+abbrev pub itemIn : List ℕ → Item → rule.Item
+itemIn s (found.Text b) = rule.text b
+itemIn s (found.Code b) = rule.code b
+itemIn s (found.Two b) = rule.two b
+itemIn s (found.Command k from to) = rule.command k (take (to - from) (drop from s))
+itemIn s (found.Broken f) = rule.broken f
+
+-- the payload bytes that a command asks for: "none if negative"
+abbrev pub asked : ℕ → ℕ → ℕ → Value → ℕ
+asked f g l v = cond (rule.hasPayload f g l) (count v) 0
+
+-- "64..94 ends the sequence; 96..126 is a command (read as its capital) and keeps the sequence open with the same two bytes.
+-- Without a group, 96..126 there breaks the sequence."
+abbrev pub ending : ℕ → ℕ → ℕ → Ending
+ending f g b = cond (within 64 94 b) (Letter b Closed) (cond (within 96 126 b && ltb 0 g) (Letter (b - 32) (Open f g)) NoLetter)
+
+-- where a command's payload begins
+abbrev pub fromOf : Item → ℕ
+fromOf (found.Text b) = 0
+fromOf (found.Code b) = 0
+fromOf (found.Two b) = 0
+fromOf (found.Command k from to) = from
+fromOf (found.Broken f) = 0
+
+-- where it ends
+abbrev pub toOf : Item → ℕ
+toOf (found.Text b) = 0
+toOf (found.Code b) = 0
+toOf (found.Two b) = 0
+toOf (found.Command k from to) = to
+toOf (found.Broken f) = 0
+
+-- the size of the value that a command holds
+abbrev pub heldSize : Command → ℕ
+heldSize (Valued k v) = sizeOf v
+heldSize (Method v) = sizeOf v
+heldSize (Print v) = sizeOf v
+heldSize (Row v) = sizeOf v
+heldSize Unknown = 0
+
+-- the size of the value of an item's command
+abbrev pub sizeIn : Item → ℕ
+sizeIn (found.Text b) = 0
+sizeIn (found.Code b) = 0
+sizeIn (found.Two b) = 0
+sizeIn (found.Command k from to) = heldSize k
+sizeIn (found.Broken f) = 0
+
+-- the item at a place of the stream s, with the bounds that a caller needs
+pub record ItemAt (s : List ℕ) (at : ℕ) (q : Sequence) (r : ReadItem) : Type 0 where
+  -- it is the item that the rules read there
+  pub is : r ≡ readAt s at q
+  -- the next place is not before the place
+  pub forward : at ≤ r .next
+  -- nor beyond the end
+  pub inside : r .next ≤ max at (length s)
+  -- a payload's start is not behind its end
+  pub ordered : fromOf (r .item) ≤ toOf (r .item)
+  -- nor its end behind the item
+  pub ended : toOf (r .item) ≤ r .next
+  -- it is no longer than the largest value
+  pub counted : toOf (r .item) ≤ fromOf (r .item) + 32767
+  -- "a size over 32,767 becomes 32,767"
+  pub low : sizeIn (r .item) ≤ 327670000

@@ -1,0 +1,251 @@
+// Reading one item of a PCL stream at a place of it, choosing the command that its bytes name, and writing a command plain.
+// Nothing is refused: what cannot be read is a broken piece, with finding 1 or 2. No state is seen but the open sequence.
+use rules::Command;
+use rules::Finding;
+use rules::Sequence;
+use rules::Value;
+ghost use mathlib.Core.Path.{_≡_};
+ghost use Prim.Native.Nat.{_≤_, _<_};
+ghost use lib.ListN.{length, drop};
+ghost use Rattle.rules.specs.Number.{count};
+ghost use Rattle.rules.specs.Items.{endsInside, hasPayload, payload, letter, parameter, group, behindEscape, read};
+ghost use Rattle.reader.specs.Items.{upTo, asked, ending, ItemAt};
+
+mod choice;
+mod plain;
+
+pub use choice::choose;
+pub use plain::command_length;
+pub use plain::head_length;
+pub use plain::write_command;
+pub use plain::write_print_head;
+pub use plain::write_row_head;
+
+// An item: text, a control code, a two-byte command, a command whose payload lies in the stream, or a broken piece.
+pub enum Item {
+    Text(u8),
+    Code(u8),
+    Two(u8),
+    Command {
+        command: Command,
+        from: usize,
+        to: usize,
+    },
+    Broken(Finding),
+}
+
+// An item, the sequence that is open behind it, and the place behind it.
+pub struct ReadItem {
+    pub item: Item,
+    pub sequence: Sequence,
+    pub next: usize,
+}
+
+// What a byte behind a value is: a command's letter, as a capital, with the sequence that is open behind it; or none.
+enum Ending {
+    Letter { capital: u8, behind: Sequence },
+    NoLetter,
+}
+
+// The count of payload bytes that a value asks for: none if negative.
+fn count_of(v: Value) -> usize
+    ensures { λ r. ⌜ r ≡ count v ⌝ }
+{
+    match v {
+        Value::Absolute(n) => (n / 10000) as usize,
+        Value::Relative { negative, size } => if negative { 0 } else { (size / 10000) as usize },
+    }
+}
+
+// Payload follows every W, &p#X and *b#V.
+fn has_payload(first: u8, group: u8, letter: u8) -> bool
+    ensures { λ r. ⌜ r ≡ hasPayload first group letter ⌝ }
+{
+    match letter {
+        b'W' => true,
+        b'X' => first == b'&' && group == b'p',
+        b'V' => first == b'*' && group == b'b',
+        _ => false,
+    }
+}
+
+// The payload bytes that a command asks for.
+fn asked_by(first: u8, group: u8, letter: u8, v: Value) -> usize
+    ensures { λ r. ⌜ r ≡ asked first group letter v ⌝ }
+{
+    if has_payload(first, group, letter) {
+        count_of(v)
+    } else {
+        0
+    }
+}
+
+// The stream ends inside a sequence, or payload is short: all bytes are taken.
+fn ends_inside(s: &[u8]) -> ReadItem
+    ensures { λ r. ⌜ r ≡ upTo (length (now (s .entry))) endsInside ⌝ }
+{
+    ReadItem {
+        item: Item::Broken(Finding::EndsInside),
+        sequence: Sequence::Closed,
+        next: s.len(),
+    }
+}
+
+// A command whose letter has been read, with its payload, which begins at the place.
+fn payload_at(
+    s: &[u8],
+    at: usize,
+    first: u8,
+    group: u8,
+    letter: u8,
+    v: Value,
+    q: Sequence,
+) -> ReadItem
+    requires { ⌜ at ≤ length (now s) ⌝ }
+    ensures { λ r. ⌜ r ≡ upTo (length (now (s .entry))) (payload first group letter v q (drop at (now (s .entry)))) ⌝ }
+{
+    let n = asked_by(first, group, letter, v);
+    if s.len() - at < n {
+        return ends_inside(s);
+    }
+    let to = at + n;
+    let command = choose(first, group, letter, v);
+    ReadItem {
+        item: Item::Command {
+            command,
+            from: at,
+            to,
+        },
+        sequence: q,
+        next: to,
+    }
+}
+
+// How a byte ends a command of this sequence.
+fn ending_of(first: u8, group: u8, b: u8) -> Ending
+    ensures { λ r. ⌜ r ≡ ending first group b ⌝ }
+{
+    match b {
+        64..=94 => Ending::Letter {
+            capital: b,
+            behind: Sequence::Closed,
+        },
+        96..=126 => {
+            if 0 < group {
+                Ending::Letter {
+                    capital: b - 32,
+                    behind: Sequence::Open { first, group },
+                }
+            } else {
+                Ending::NoLetter
+            }
+        }
+        _ => Ending::NoLetter,
+    }
+}
+
+// What ends a command, at the place behind its value.
+fn letter_at(s: &[u8], at: usize, first: u8, group: u8, v: Value) -> ReadItem
+    ensures { λ r. ⌜ r ≡ upTo (length (now (s .entry))) (letter first group v (drop at (now (s .entry)))) ⌝ }
+{
+    if s.len() <= at {
+        return ends_inside(s);
+    }
+    let e = ending_of(first, group, s[at]);
+    let Ending::Letter { capital, behind } = e else {
+        return ReadItem {
+            item: Item::Broken(Finding::CannotStand),
+            sequence: Sequence::Closed,
+            next: at,
+        };
+    };
+    payload_at(s, at + 1, first, group, capital, v, behind)
+}
+
+// A value and what ends it.
+fn parameter_at(s: &[u8], at: usize, first: u8, group: u8) -> ReadItem
+    requires { ⌜ at ≤ length (now s) ⌝ }
+    ensures { λ r. ⌜ r ≡ upTo (length (now (s .entry))) (parameter first group (drop at (now (s .entry)))) ⌝ }
+{
+    let v = number::read_value(s, at);
+    let value = v.value;
+    let next = v.next;
+    letter_at(s, next, first, group, value)
+}
+
+// Behind ESC and the first byte: a group or none, and a command.
+fn group_at(s: &[u8], at: usize, first: u8) -> ReadItem
+    ensures { λ r. ⌜ r ≡ upTo (length (now (s .entry))) (group first (drop at (now (s .entry)))) ⌝ }
+{
+    if s.len() <= at {
+        return ends_inside(s);
+    }
+    let b = s[at];
+    match b {
+        96..=126 => parameter_at(s, at + 1, first, b),
+        _ => parameter_at(s, at, first, 0),
+    }
+}
+
+// Behind ESC: a two-byte command or a sequence.
+fn escape_at(s: &[u8], at: usize) -> ReadItem
+    ensures { λ r. ⌜ r ≡ upTo (length (now (s .entry))) (behindEscape (drop at (now (s .entry)))) ⌝ }
+{
+    if s.len() <= at {
+        return ends_inside(s);
+    }
+    let b = s[at];
+    let next = at + 1;
+    match b {
+        48..=126 => ReadItem {
+            item: Item::Two(b),
+            sequence: Sequence::Closed,
+            next,
+        },
+        33..=47 => group_at(s, next, b),
+        _ => ReadItem {
+            item: Item::Broken(Finding::CannotStand),
+            sequence: Sequence::Closed,
+            next: at,
+        },
+    }
+}
+
+// Where no sequence is open: text, a code, or ESC and what is behind it.
+fn afresh_at(s: &[u8], at: usize) -> ReadItem
+    requires { ⌜ at < length (now s) ⌝ }
+    ensures { λ r. ⌜ r ≡ upTo (length (now (s .entry))) (read Sequence.Closed (drop at (now (s .entry)))) ⌝ }
+{
+    let b = s[at];
+    let next = at + 1;
+    match b {
+        27 => escape_at(s, next),
+        32..=126 | 128..=255 => ReadItem {
+            item: Item::Text(b),
+            sequence: Sequence::Closed,
+            next,
+        },
+        _ => ReadItem {
+            item: Item::Code(b),
+            sequence: Sequence::Closed,
+            next,
+        },
+    }
+}
+
+// The item at a place of the stream, read with the sequence that is open there. From the end on there is none: finding 1.
+pub fn read_item(s: &[u8], at: usize, q: Sequence) -> ReadItem
+    ensures { λ r. ⌜ ItemAt (now (s .entry)) at q r ⌝ }
+{
+    if s.len() <= at {
+        return ReadItem {
+            item: Item::Broken(Finding::EndsInside),
+            sequence: Sequence::Closed,
+            next: at,
+        };
+    }
+    match q {
+        Sequence::Closed => afresh_at(s, at),
+        Sequence::Open { first, group } => parameter_at(s, at, first, group),
+    }
+}

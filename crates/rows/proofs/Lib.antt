@@ -1,0 +1,5 @@
+pub mod Controls
+pub mod Clips
+pub mod Whole
+pub mod Changes
+pub mod Rows

@@ -1,0 +1,62 @@
+-- `rows::row_by` meets its contract: a law for each method. Assumes nothing.
+use borrow.Author.Needs.{needs}
+use Rattle.rows.proofs.Rows.{third-row, plain-row, first-row, second-row}
+use Rattle.rows.proofs.row_by.Statement.{statement}
+use Rattle.rows.proofs.row_by.Tie as tie
+
+by-control-requires : tie.Need-by-control-requires
+by-control-requires c κs = search needs
+
+same-length : tie.Need-same-length
+same-length c = search needs
+
+returns : tie.Need-returns
+returns c = search (third-row, needs)
+
+clear-requires : tie.Need-clear-requires
+clear-requires c κs = search needs
+
+copy-requires : tie.Need-copy-requires
+copy-requires c κs = search needs
+
+same-length-2 : tie.Need-same-length-2
+same-length-2 c = search needs
+
+returns-2 : tie.Need-returns-2
+returns-2 c = search (plain-row, needs)
+
+by-control-requires-2 : tie.Need-by-control-requires-2
+by-control-requires-2 c κs = search needs
+
+same-length-3 : tie.Need-same-length-3
+same-length-3 c = search needs
+
+returns-3 : tie.Need-returns-3
+returns-3 c = search (first-row, needs)
+
+by-control-requires-3 : tie.Need-by-control-requires-3
+by-control-requires-3 c κs = search needs
+
+same-length-4 : tie.Need-same-length-4
+same-length-4 c = search needs
+
+returns-4 : tie.Need-returns-4
+returns-4 c = search (second-row, needs)
+
+pub row-by-spec : {M : Type 1} → statement M
+row-by-spec =
+    tie.close
+    (tie.spec
+    by-control-requires
+    same-length
+    returns
+    clear-requires
+    copy-requires
+    same-length-2
+    returns-2
+    by-control-requires-2
+    same-length-3
+    returns-3
+    by-control-requires-3
+    same-length-4
+    returns-4)
