@@ -1,0 +1,13 @@
+-- `codes::clear_margins` meets its contract. Assumes nothing.
+use borrow.Author.Needs.{needs}
+use Rattle.codes.proofs.clear_margins.Statement.{statement}
+use Rattle.codes.proofs.clear_margins.Tie as tie
+
+width-requires : tie.Need-width-requires
+width-requires c κs = search needs
+
+returns : tie.Need-returns
+returns c = cc
+
+pub clear-margins-spec : {M : Type 1} → statement M
+clear-margins-spec = tie.close (tie.spec width-requires returns)

@@ -1,0 +1,22 @@
+-- `state::page::fresh_core` meets its contract. Assumes nothing.
+use Rattle.rules.specs.States.{freshCore, freshRaster}
+use borrow.Author.Needs.{needs}
+use Rattle.state.proofs.page.fresh_core.Statement.{statement}
+use Rattle.state.proofs.page.fresh_core.Tie as tie
+
+fresh-layout-requires : tie.Need-fresh-layout-requires
+fresh-layout-requires c κs = search needs
+
+first-line-at-requires : tie.Need-first-line-at-requires
+first-line-at-requires c κs = search needs
+
+into-height-requires : tie.Need-into-height-requires
+into-height-requires c κs = search needs
+
+returns : tie.Need-returns
+unfolding freshCore freshRaster
+returns c = cc
+
+pub fresh-core-spec : {M : Type 1} → statement M
+fresh-core-spec =
+    tie.close (tie.spec fresh-layout-requires first-line-at-requires into-height-requires returns)

@@ -1,0 +1,18 @@
+-- `state::page::fresh_layout` meets its contract. Assumes nothing.
+use Rattle.rules.specs.States.{freshLayout}
+use borrow.Author.Needs.{needs}
+use Rattle.state.proofs.page.fresh_layout.Statement.{statement}
+use Rattle.state.proofs.page.fresh_layout.Tie as tie
+
+width-requires : tie.Need-width-requires
+width-requires c κs = search needs
+
+fresh-top-requires : tie.Need-fresh-top-requires
+fresh-top-requires c κs = search needs
+
+returns : tie.Need-returns
+unfolding freshLayout
+returns c = cc
+
+pub fresh-layout-spec : {M : Type 1} → statement M
+fresh-layout-spec = tie.close (tie.spec width-requires fresh-top-requires returns)

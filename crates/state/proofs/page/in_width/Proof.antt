@@ -1,0 +1,16 @@
+-- `state::page::in_width` meets its contract. Assumes nothing.
+use borrow.Author.Needs.{needs}
+use Rattle.state.proofs.page.in_width.Statement.{statement}
+use Rattle.state.proofs.page.in_width.Tie as tie
+
+width-requires : tie.Need-width-requires
+width-requires c κs = search needs
+
+cast-result : tie.Need-cast-result
+cast-result c = search needs
+
+returns : tie.Need-returns
+returns c = cc
+
+pub in-width-spec : {M : Type 1} → statement M
+in-width-spec = tie.close (tie.spec width-requires cast-result returns)

@@ -1,0 +1,32 @@
+// Arithmetic that the effects share.
+ghost use mathlib.Core.Path.{_≡_};
+ghost use Prim.Native.Nat.{_-_, _/_, _≤_, min, max};
+ghost use Rattle.rules.specs.Measure.{inch};
+
+// The greater of two numbers.
+pub fn most(a: u64, b: u64) -> u64
+    ensures { λ r. ⌜ r ≡ max a b ⌝ }
+{
+    if a < b { b } else { a }
+}
+
+// The lesser of two numbers.
+pub fn least(a: u64, b: u64) -> u64
+    ensures { λ r. ⌜ r ≡ min a b ⌝ }
+{
+    if a < b { a } else { b }
+}
+
+// What is left of a number, no less than 0.
+pub fn less(a: u64, by: u64) -> u64
+    ensures { λ r. ⌜ r ≡ a - by ⌝ }
+{
+    if by < a { a - by } else { 0 }
+}
+
+// A part of an inch; none where there are no parts.
+pub fn inch_over(n: u32) -> u32
+    ensures { λ r. ⌜ (r ≡ inch / n) × (r ≤ 7200) ⌝ }
+{
+    if n == 0 { 0 } else { 7200 / n }
+}

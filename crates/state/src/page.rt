@@ -1,0 +1,203 @@
+// Paper 01, "Measures": the page, the state afresh, and the cursor brought into the page.
+ghost use mathlib.Core.Path.{_≡_};
+ghost use Prim.Native.Nat.{_≤_, _<_};
+ghost use lib.Dec.{leb};
+ghost use Rattle.rules.specs.Measure.{allowed, measureOf, LW, LH, intoWidth, intoHeight};
+ghost use Rattle.rules.specs.States.{toX, toY, firstLineAt, freshTop, freshLayout, freshCore, afresh};
+ghost use Rattle.rules.specs.Effects.{startedAt};
+use rules::Beside;
+use rules::Core;
+use rules::Layout;
+use rules::Measure;
+use rules::Raster;
+use rules::Sequence;
+use rules::Spot;
+use rules::State;
+
+// Whether a page may have this width and height, in dots.
+pub fn allowed(w: usize, h: usize) -> bool
+    ensures { λ r. ⌜ r ≡ allowed w h ⌝ }
+{
+    if w % 8 != 0 {
+        return false;
+    }
+    if w < 8 {
+        return false;
+    }
+    if 4800 < w {
+        return false;
+    }
+    if h < 1 {
+        return false;
+    }
+    h <= 6800
+}
+
+// The measure of a page of this width and height, in dots.
+pub fn measure_of(w: usize, h: usize) -> Measure
+    ensures { λ r. ⌜ r ≡ measureOf w h ⌝ }
+{
+    Measure {
+        wide: w / 8,
+        high: h,
+    }
+}
+
+// LW, the page's width in units.
+pub fn width(g: Measure) -> u32
+    requires { ⌜ (g .wide ≤ 600) × (g .high ≤ 6800) ⌝ }
+    ensures { λ r. ⌜ (r ≡ LW g) × (r ≤ 115200) ⌝ }
+{
+    (24 * (8 * g.wide)) as u32
+}
+
+// LH, the page's height in units.
+pub fn height(g: Measure) -> u32
+    requires { ⌜ (g .wide ≤ 600) × (g .high ≤ 6800) ⌝ }
+    ensures { λ r. ⌜ (r ≡ LH g) × (r ≤ 163200) ⌝ }
+{
+    (24 * g.high) as u32
+}
+
+// Whether a place lies in the page's width.
+pub fn in_width(g: Measure, n: u64) -> bool
+    requires { ⌜ (g .wide ≤ 600) × (g .high ≤ 6800) ⌝ }
+    ensures { λ r. ⌜ r ≡ leb n (LW g) ⌝ }
+{
+    n <= width(g) as u64
+}
+
+// Whether a place lies in the page's height.
+pub fn in_height(g: Measure, n: u64) -> bool
+    requires { ⌜ (g .wide ≤ 600) × (g .high ≤ 6800) ⌝ }
+    ensures { λ r. ⌜ r ≡ leb n (LH g) ⌝ }
+{
+    n <= height(g) as u64
+}
+
+// A place across the page, brought into its width.
+pub fn into_width(g: Measure, n: u64) -> u32
+    requires { ⌜ (g .wide ≤ 600) × (g .high ≤ 6800) ⌝ }
+    ensures { λ r. ⌜ r ≡ intoWidth g n ⌝ }
+{
+    let widest = width(g);
+    if n < widest as u64 { n as u32 } else { widest }
+}
+
+// A place down the page, brought into its height.
+pub fn into_height(g: Measure, n: u64) -> u32
+    requires { ⌜ (g .wide ≤ 600) × (g .high ≤ 6800) ⌝ }
+    ensures { λ r. ⌜ r ≡ intoHeight g n ⌝ }
+{
+    let highest = height(g);
+    if n < highest as u64 {
+        n as u32
+    } else {
+        highest
+    }
+}
+
+// The cursor at x = n, in the page.
+pub fn to_x(g: Measure, n: u64, c: Core) -> Core
+    requires { ⌜ (g .wide ≤ 600) × (g .high ≤ 6800) ⌝ }
+    ensures { λ r. ⌜ r ≡ toX g n c ⌝ }
+{
+    let x = into_width(g, n);
+    let mut d = c;
+    d.at.x = x;
+    d
+}
+
+// The cursor at y = n, in the page.
+pub fn to_y(g: Measure, n: u64, c: Core) -> Core
+    requires { ⌜ (g .wide ≤ 600) × (g .high ≤ 6800) ⌝ }
+    ensures { λ r. ⌜ r ≡ toY g n c ⌝ }
+{
+    let y = into_height(g, n);
+    let mut d = c;
+    d.at.y = y;
+    d
+}
+
+// The first line of a page: the top margin and three quarters of VMI.
+pub fn first_line_at(l: Layout) -> u64
+    ensures { λ r. ⌜ (r ≡ firstLineAt l) × (r < 8589934592) ⌝ }
+{
+    l.top as u64 + (l.vmi as u64) * 3 / 4
+}
+
+// Raster started, with its margin and a seed row of zeros.
+pub fn started_at(margin: u32, c: Core) -> Core
+    ensures { λ r. ⌜ r ≡ startedAt margin c ⌝ }
+{
+    let mut d = c;
+    d.raster.started = true;
+    d.raster.margin = margin;
+    d.seed = [0u8; 600];
+    d
+}
+
+// The top margin of a page afresh.
+fn fresh_top(g: Measure) -> u32
+    ensures { λ r. ⌜ r ≡ freshTop g ⌝ }
+{
+    if 150 < g.high { 3600 } else { 0 }
+}
+
+// Margins, motion and line termination afresh.
+fn fresh_layout(g: Measure) -> Layout
+    requires { ⌜ (g .wide ≤ 600) × (g .high ≤ 6800) ⌝ }
+    ensures { λ r. ⌜ r ≡ freshLayout g ⌝ }
+{
+    let right = width(g);
+    let top = fresh_top(g);
+    Layout {
+        left: 0,
+        right,
+        top,
+        hmi: 720,
+        vmi: 1200,
+        termination: 0,
+    }
+}
+
+// The core afresh.
+pub fn fresh_core(g: Measure) -> Core
+    requires { ⌜ (g .wide ≤ 600) × (g .high ≤ 6800) ⌝ }
+    ensures { λ r. ⌜ r ≡ freshCore g ⌝ }
+{
+    let layout = fresh_layout(g);
+    let y = into_height(g, first_line_at(layout));
+    let at = Spot { x: 0, y };
+    let raster = Raster {
+        resolution: 75,
+        started: false,
+        margin: 0,
+    };
+    let stack = [Spot { x: 0, y: 0 }; 20];
+    let seed = [0u8; 600];
+    Core {
+        at,
+        layout,
+        raster,
+        used: false,
+        depth: 0,
+        stack,
+        seed,
+    }
+}
+
+// The state afresh.
+pub fn afresh(g: Measure) -> State
+    requires { ⌜ (g .wide ≤ 600) × (g .high ≤ 6800) ⌝ }
+    ensures { λ r. ⌜ r ≡ afresh g ⌝ }
+{
+    let core = fresh_core(g);
+    let beside = Beside { method: 0 };
+    let sequence = Sequence::Closed;
+    State {
+        core,
+        beside,
+        sequence,
+    }
+}
