@@ -1,3 +1,2 @@
--- The laws of this crate; `typed-spot` and `drawn-parts` of `Moves` say to callers what its definitions are to the rules'.
+-- The laws of this crate.
 pub mod Moves
-pub mod Resets

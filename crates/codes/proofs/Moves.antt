@@ -1,52 +1,24 @@
--- Text, codes, two-byte commands and rows, step by step. Assumes nothing.
-use mathlib.Core.Path.{_≡_, refl, sym, ap, _∙_}
-use mathlib.Core.Bool.{Bool, true, false, cond, not, _||_}
-use mathlib.Core.List.{List}
-use Prim.Native.Nat.{ℕ, _+_, _*_, _-_, _/_, _≤_, _<_, max}
+-- Codes and two-byte commands, step by step. Assumes nothing.
+use mathlib.Core.Path.{_≡_, refl, ap, _∙_}
+use mathlib.Core.Bool.{Bool, true, false, cond}
+use Prim.Native.Nat.{ℕ, _+_, _*_, _-_, _/_, _≤_, max}
 use native.Mathlib.Nat.{div-mul-le-self, div-le-self, suc-mul}
 use native.Mathlib.Numerals.{add-one}
 use native.Mathlib.Omega.{arith}
-use lib.Dec.{eqb}
-use lib.ListN.{length, drop, getD, drop-of-length-le}
 use mir.Syntax.{w32, w64}
 use mir.Val.{Fits}
 use borrow.Author.Tests.{eq-eqb, ne-eqb}
-use Rattle.common.specs.Lists.{pad}
-use Rattle.common.proofs.Places.{cut}
 use Rattle.rules.specs.declared.Measure.{Measure}
 use Rattle.rules.specs.declared.Spot.{Spot}
 use Rattle.rules.specs.declared.Code.{Code}
 use Rattle.rules.specs.declared.Code.the-variants.{FormFeed, Tab}
 use Rattle.rules.specs.declared.Escape.{Escape}
-use Rattle.rules.specs.declared.Beside.{Beside}
 use Rattle.rules.specs.declared.Core.{Core}
-use Rattle.rules.specs.Measure.{rowHolds}
-use Rattle.rules.specs.States.{withAt, withUsed, withSeed, toY, firstLineAt}
-use Rattle.rules.specs.Codes.{typed, typedAll, carriageReturn, lineFeed, firstLine, returnsOnFeed, nextStop, coded, escaped}
-use Rattle.rules.specs.Acts.{begun, drawn, endsPage, besideAfter, control, escape}
-use Rattle.codes.specs.Cursor.{forwardSpot, typedSpot, movedOn}
-
--- the cursor of `typed` is that of `typedSpot`
-pub typed-spot : (g : Measure) (b : ℕ) (c : Core) → typed g b c .at ≡ typedSpot g (c .at) (c .layout)
-unfolding typed
-typed-spot g b c = refl
-
--- what a row does to the core: raster begun, moved on, and the row is the seed row
-pub drawn-parts : (g : Measure) (row : List ℕ) (c : Core) → drawn g row c ≡ withSeed (pad rowHolds row) (movedOn g (begun c))
-unfolding drawn
-drawn-parts g row c = refl
-
--- text so far leaves the cursor at p and the page used or not; what is left of it makes the whole
-module _ (g : Measure) (s : List ℕ) (c : Core) (p : Spot) (u : Bool) (i : ℕ) (inv : typedAll g s c ≡ typedAll g (drop i s) (withUsed u (withAt p c))) where
-  -- one byte more
-  pub typing-more : (q : Spot) (w : Bool) → i < length s → q ≡ typedSpot g p (c .layout) → w ≡ (u || not (eqb (getD s i 0) 32)) → typedAll g s c ≡ typedAll g (drop (i + 1) s) (withUsed w (withAt q c))
-  unfolding typedAll typed
-  typing-more q w h e f = rw (e, f) (inv ∙ ap (λ (l : List ℕ). typedAll g l (withUsed u (withAt p c))) (cut s i h))
-
-  -- no byte more
-  pub typing-ends : length s ≤ i → withUsed u (withAt p c) ≡ typedAll g s c
-  unfolding typedAll
-  typing-ends h = sym (inv ∙ ap (λ (l : List ℕ). typedAll g l (withUsed u (withAt p c))) (drop-of-length-le s h))
+use Rattle.rules.specs.Measure.{LW}
+use Rattle.rules.specs.States.{withAt, withUsed, withLayout, withLeft, withRight, toY, firstLineAt}
+use Rattle.rules.specs.Codes.{carriageReturn, lineFeed, firstLine, returnsOnFeed, nextStop, coded, escaped}
+use Rattle.rules.specs.Acts.{endsPage, control, escape}
+use Rattle.text.specs.Cursor.{forwardSpot}
 
 -- LF behind another code
 pub fed : (g : Measure) (c d r : Core) → d ≡ c → r ≡ lineFeed g d → r ≡ lineFeed g c
@@ -91,6 +63,10 @@ stop-fits x left hmi h k = record { fits = omega (arith, stop-small (x - left) (
 pub stop-at-fits : (x left hmi : ℕ) → Fits w32 x → Fits w32 left → Fits w32 hmi → Fits w64 (left + ((x - left) / (8 * hmi) + 1) * (8 * hmi))
 stop-at-fits x left hmi h l k = record { fits = omega (arith, stop-small (x - left) (8 * hmi)) }
 
+-- ESC 9: R is the width that was measured
+pub margins-cleared : (g : Measure) (n : ℕ) (c : Core) → n ≡ LW g → withLayout (withLeft 0 (withRight n (c .layout))) c ≡ withLayout (withLeft 0 (withRight (LW g) (c .layout))) c
+margins-cleared g n c e = rw e
+
 -- what a code does where a `match` has told which it is
 pub coded-told : (g : Measure) (k j : Code) (c r : Core) → k ≡ j → r ≡ coded g j c → r ≡ coded g k c
 coded-told g k j c r e h = rw e h
@@ -106,7 +82,3 @@ code-ends-told k j c r e h = rw e h
 -- whether the two-byte command that a `match` has told ends the page
 pub escape-ends-told : (k j : Escape) (c : Core) (r : Bool) → k ≡ j → r ≡ endsPage (escape j) c → r ≡ endsPage (escape k) c
 escape-ends-told k j c r e h = rw e h
-
--- the row method behind the two-byte command that a `match` has told
-pub beside-told : (k j : Escape) (m r : Beside) → k ≡ j → r ≡ besideAfter (escape j) m → r ≡ besideAfter (escape k) m
-beside-told k j m r e h = rw e h

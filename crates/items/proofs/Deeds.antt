@@ -37,8 +37,8 @@ use Rattle.rules.specs.Acts.{Act, type, control, escape, order, print, draw, wo
 use Rattle.rules.specs.Run.{pageOf}
 use Rattle.rules.specs.Items as rule
 use Rattle.rows.specs.Decoding.{Decoded}
-use Rattle.codes.specs.Cursor.{movedOn}
-use Rattle.codes.proofs.Moves.{drawn-parts}
+use Rattle.raster.specs.Cursor.{movedOn}
+use Rattle.raster.proofs.Drawing.{drawn-parts}
 use Rattle.theorems.proofs.Lengths.{decoded-length}
 use Rattle.theorems.proofs.Soundness.{drop-zeros}
 use Rattle.common.proofs.Choices.{and-true}

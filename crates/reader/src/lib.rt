@@ -1,5 +1,6 @@
-// Reading one item of a PCL stream at a place of it, choosing the command that its bytes name, and writing a command plain.
-// Nothing is refused: what cannot be read is a broken piece, with finding 1 or 2. No state is seen but the open sequence.
+// Reading one item of a PCL stream at a place of it. Nothing is refused: what cannot be read is a broken piece, with finding 1 or 2.
+// No state is seen but the open sequence.
+use choice::choose;
 use rules::Command;
 use rules::Finding;
 use rules::Sequence;
@@ -10,16 +11,6 @@ ghost use lib.ListN.{length, drop};
 ghost use Rattle.rules.specs.Number.{count};
 ghost use Rattle.rules.specs.Items.{endsInside, hasPayload, payload, letter, parameter, group, behindEscape, read};
 ghost use Rattle.reader.specs.Items.{upTo, asked, ending, ItemAt};
-
-mod choice;
-mod plain;
-
-pub use choice::choose;
-pub use plain::command_length;
-pub use plain::head_length;
-pub use plain::write_command;
-pub use plain::write_print_head;
-pub use plain::write_row_head;
 
 // An item: text, a control code, a two-byte command, a command whose payload lies in the stream, or a broken piece.
 pub enum Item {

@@ -38,7 +38,7 @@ use Rattle.reader.specs.declared.Item.the-variants as found
 use Rattle.reader.specs.declared.ReadItem.{ReadItem}
 use Rattle.reader.specs.Items.{readAt, itemIn, ItemAt}
 use Rattle.reader.proofs.Places.{read-left, read-back}
-use Rattle.codes.specs.Cursor.{typedSpot}
+use Rattle.text.specs.Cursor.{typedSpot}
 use Rattle.items.specs.declared.Acted.{Acted}
 use Rattle.items.specs.Acted.{actedOf, acted, pageAfter, ActedOn}
 use Rattle.items.proofs.Deeds.{text-done}

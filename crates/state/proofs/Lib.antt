@@ -3,3 +3,4 @@ pub mod Flags
 pub mod Keys
 pub mod Placed
 pub mod Loops
+pub mod Fresh

@@ -5,7 +5,7 @@ use Rattle.items.proofs.beside_of.Statement.{statement}
 use Rattle.items.proofs.beside_of.Tie as tie
 use Rattle.items.proofs.beside_of.Reads as reads
 use Rattle.items.proofs.beside_of.Lts as lts
-use Rattle.codes.proofs.beside_order.Reads as beside-order-reads
+use Rattle.raster.proofs.beside_order.Reads as beside-order-reads
 use Rattle.items.proofs.is_clean.Reads as is-clean-reads
 
 -- src/lib.rt:173:8

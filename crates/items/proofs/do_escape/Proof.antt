@@ -7,7 +7,7 @@ use Rattle.items.proofs.do_escape.Reads as reads
 use Rattle.items.proofs.do_escape.Lts as lts
 use Rattle.codes.proofs.escape_ends_page.Reads as escape-ends-page-reads
 use Rattle.codes.proofs.escaped.Reads as escaped-reads
-use Rattle.codes.proofs.beside_escape.Reads as beside-escape-reads
+use Rattle.raster.proofs.beside_escape.Reads as beside-escape-reads
 
 -- src/lib.rt:136:9
 escape-ends-page-requires : tie.Need-escape-ends-page-requires

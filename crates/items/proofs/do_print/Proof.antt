@@ -5,7 +5,7 @@ use Rattle.items.proofs.do_print.Statement.{statement}
 use Rattle.items.proofs.do_print.Tie as tie
 use Rattle.items.proofs.do_print.Reads as reads
 use Rattle.items.proofs.do_print.Lts as lts
-use Rattle.codes.proofs.typed_all.Reads as typed-all-reads
+use Rattle.text.proofs.typed_all.Reads as typed-all-reads
 use Rattle.items.proofs.nothing_done.Reads as nothing-done-reads
 use Rattle.values.proofs.whole_negative.Reads as whole-negative-reads
 

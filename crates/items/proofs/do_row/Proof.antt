@@ -5,8 +5,8 @@ use Rattle.items.proofs.do_row.Statement.{statement}
 use Rattle.items.proofs.do_row.Tie as tie
 use Rattle.items.proofs.do_row.Reads as reads
 use Rattle.items.proofs.do_row.Lts as lts
-use Rattle.codes.proofs.begun.Reads as begun-reads
-use Rattle.codes.proofs.moved_on.Reads as moved-on-reads
+use Rattle.raster.proofs.begun.Reads as begun-reads
+use Rattle.raster.proofs.moved_on.Reads as moved-on-reads
 use Rattle.items.proofs.nothing_done.Reads as nothing-done-reads
 use Rattle.items.proofs.paint_row.Reads as paint-row-reads
 use Rattle.items.proofs.row_finding.Reads as row-finding-reads

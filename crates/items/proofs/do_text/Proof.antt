@@ -5,7 +5,7 @@ use Rattle.items.proofs.do_text.Statement.{statement}
 use Rattle.items.proofs.do_text.Tie as tie
 use Rattle.items.proofs.do_text.Reads as reads
 use Rattle.items.proofs.do_text.Lts as lts
-use Rattle.codes.proofs.typed.Reads as typed-reads
+use Rattle.text.proofs.typed.Reads as typed-reads
 
 -- src/lib.rt:314:9
 typed-requires : tie.Need-typed-requires

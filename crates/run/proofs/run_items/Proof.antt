@@ -12,8 +12,8 @@ use Rattle.run.proofs.run_items.Statement.{statement}
 use Rattle.run.proofs.run_items.Tie as tie
 use Rattle.run.proofs.run_items.Reads as reads
 use Rattle.run.proofs.run_items.Lts as lts
-use Rattle.codes.proofs.marked.Reads as marked-reads
-use Rattle.codes.proofs.typed_at.Reads as typed-at-reads
+use Rattle.text.proofs.marked.Reads as marked-reads
+use Rattle.text.proofs.typed_at.Reads as typed-at-reads
 use Rattle.run.proofs.goes_on.Reads as goes-on-reads
 use Rattle.run.proofs.is_over.Reads as is-over-reads
 use Rattle.run.proofs.next_item.Reads as next-item-reads

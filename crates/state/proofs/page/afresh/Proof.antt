@@ -1,5 +1,5 @@
 -- `state::page::afresh` meets its contract. Assumes nothing.
-use Rattle.rules.specs.States.{afresh}
+use Rattle.state.proofs.Fresh.{state-parts}
 use borrow.Author.Needs.{needs}
 use Rattle.state.proofs.page.afresh.Statement.{statement}
 use Rattle.state.proofs.page.afresh.Tie as tie
@@ -8,8 +8,7 @@ fresh-core-requires : tie.Need-fresh-core-requires
 fresh-core-requires c κs = search needs
 
 returns : tie.Need-returns
-unfolding afresh
-returns c = cc
+returns c = search (state-parts, needs)
 
 pub afresh-spec : {M : Type 1} → statement M
 afresh-spec = tie.close (tie.spec fresh-core-requires returns)

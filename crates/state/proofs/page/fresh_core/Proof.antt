@@ -1,5 +1,5 @@
 -- `state::page::fresh_core` meets its contract. Assumes nothing.
-use Rattle.rules.specs.States.{freshCore, freshRaster}
+use Rattle.state.proofs.Fresh.{core-parts}
 use borrow.Author.Needs.{needs}
 use Rattle.state.proofs.page.fresh_core.Statement.{statement}
 use Rattle.state.proofs.page.fresh_core.Tie as tie
@@ -14,8 +14,7 @@ into-height-requires : tie.Need-into-height-requires
 into-height-requires c κs = search needs
 
 returns : tie.Need-returns
-unfolding freshCore freshRaster
-returns c = cc
+returns c = search (core-parts, needs)
 
 pub fresh-core-spec : {M : Type 1} → statement M
 fresh-core-spec =

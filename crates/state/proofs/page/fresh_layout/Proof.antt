@@ -1,5 +1,5 @@
 -- `state::page::fresh_layout` meets its contract. Assumes nothing.
-use Rattle.rules.specs.States.{freshLayout}
+use Rattle.state.proofs.Fresh.{layout-parts}
 use borrow.Author.Needs.{needs}
 use Rattle.state.proofs.page.fresh_layout.Statement.{statement}
 use Rattle.state.proofs.page.fresh_layout.Tie as tie
@@ -11,8 +11,7 @@ fresh-top-requires : tie.Need-fresh-top-requires
 fresh-top-requires c κs = search needs
 
 returns : tie.Need-returns
-unfolding freshLayout
-returns c = cc
+returns c = search (layout-parts, needs)
 
 pub fresh-layout-spec : {M : Type 1} → statement M
 fresh-layout-spec = tie.close (tie.spec width-requires fresh-top-requires returns)

@@ -1,4 +1,5 @@
 -- `state::page::in_height` meets its contract. Assumes nothing.
+use Rattle.state.proofs.Placed.{same-bound}
 use borrow.Author.Needs.{needs}
 use Rattle.state.proofs.page.in_height.Statement.{statement}
 use Rattle.state.proofs.page.in_height.Tie as tie
@@ -10,7 +11,7 @@ cast-result : tie.Need-cast-result
 cast-result c = search needs
 
 returns : tie.Need-returns
-returns c = cc
+returns c = search (same-bound, needs)
 
 pub in-height-spec : {M : Type 1} → statement M
 in-height-spec = tie.close (tie.spec height-requires cast-result returns)

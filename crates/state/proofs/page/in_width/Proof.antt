@@ -1,4 +1,5 @@
 -- `state::page::in_width` meets its contract. Assumes nothing.
+use Rattle.state.proofs.Placed.{same-bound}
 use borrow.Author.Needs.{needs}
 use Rattle.state.proofs.page.in_width.Statement.{statement}
 use Rattle.state.proofs.page.in_width.Tie as tie
@@ -10,7 +11,7 @@ cast-result : tie.Need-cast-result
 cast-result c = search needs
 
 returns : tie.Need-returns
-returns c = cc
+returns c = search (same-bound, needs)
 
 pub in-width-spec : {M : Type 1} → statement M
 in-width-spec = tie.close (tie.spec width-requires cast-result returns)

@@ -1,0 +1,2 @@
+-- The laws of the command choice.
+pub mod Choosing

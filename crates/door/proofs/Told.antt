@@ -1,0 +1,93 @@
+-- What the functions for C answer is what the rules give. Assumes nothing.
+use mathlib.Core.Path.{_≡_, refl, sym, ap, _∙_}
+use mathlib.Core.Bool.{Bool, true, false, cond, not, _&&_}
+use mathlib.Core.List.{List}
+use Prim.Native.Nat.{ℕ, _*_, _-_, _≤_, _<_}
+use native.Mathlib.Nat.{sub-zero, mul-le-mul}
+use native.Mathlib.Omega.{arith}
+use lib.Dec.{leb, ltb}
+use lib.ListN.{length, take, length-take}
+use lib.Seq.{sets}
+use borrow.Author.Tests.{not-true, not-false, lt-ltb, le-ltb, lt-leb, le-leb}
+use Rattle.common.specs.Bits.{onesAll}
+use Rattle.rules.specs.declared.Measure.{Measure}
+use Rattle.rules.specs.declared.Refusal.{Refusal}
+use Rattle.rules.specs.declared.Refusal.the-variants.{PageMeasure, UnsoundState}
+use Rattle.rules.specs.declared.Verdict.{Verdict}
+use Rattle.rules.specs.declared.Verdict.the-variants.{Carried, Refused}
+use Rattle.rules.specs.declared.Finding.{Finding}
+use Rattle.rules.specs.declared.State.{State}
+use Rattle.rules.specs.declared.Ran.{Ran}
+use Rattle.rules.specs.Measure.{allowed, measureOf, pageBytes}
+use Rattle.rules.specs.Findings.{findingNumber, refusalNumber}
+use Rattle.rules.specs.Sound.{sound}
+use Rattle.rules.specs.States.{afresh}
+use Rattle.rules.specs.Run.{Outcome, answer}
+use Rattle.theorems.specs.Statements.{RunPromise}
+use Rattle.theorems.specs.Facts.{Fits}
+use Rattle.kept.specs.Kept.{stateAt, stateBytes}
+use Rattle.door.specs.Answers.{afreshNumber, afreshBytes, MadeAfresh, numberOf, ranNumber, bytesBehind, keptAfter, flagged, Answered}
+
+module _ (W H : ℕ) (x : Bool) (a : x ≡ allowed W H) where
+  -- 10
+  pub afresh-measure : (b : List ℕ) (r : ℕ) → not x ≡ true → r ≡ refusalNumber PageMeasure → MadeAfresh W H b r b
+  afresh-measure b r e h = record { number = rw (← a, not-true x e) h; bytes = rw (← a, not-true x e) }
+
+  -- 13
+  pub afresh-short : (b : List ℕ) (r : ℕ) → not x ≡ false → length b < 808 → r ≡ refusalNumber UnsoundState → MadeAfresh W H b r b
+  afresh-short b r e l h = let z = lt-ltb (length b) 808 l in record { number = rw (← a, not-false x e, z) h; bytes = rw (← a, not-false x e, z) }
+
+  -- made
+  pub afresh-made : (b after : List ℕ) (g : Measure) (t : State) → not x ≡ false → 808 ≤ length b → g ≡ measureOf W H → t ≡ afresh g → after ≡ sets b 0 (stateBytes t) → MadeAfresh W H b 0 after
+  afresh-made b after g t e l m s h =
+      let z = le-ltb (length b) 808 l in
+      record { number = rw (← a, not-false x e, z); bytes = rw (← a, not-false x e, z) (h ∙ ap (λ (u : State). sets b 0 (stateBytes u)) (s ∙ ap afresh m)) }
+
+  -- no measure, no sound state
+  pub sound-not : (b : List ℕ) → not x ≡ true → false ≡ (allowed W H && sound (measureOf W H) (stateAt b))
+  sound-not b e = rw (← a, not-true x e)
+
+  pub sound-told : (b : List ℕ) (g : Measure) (t : State) (r : Bool) → not x ≡ false → g ≡ measureOf W H → t ≡ stateAt b → r ≡ sound g t → r ≡ (allowed W H && sound (measureOf W H) (stateAt b))
+  sound-told b g t r e m s h = rw (← a, not-false x e) (rw (m, s) at h)
+
+  -- dots
+  pub dots-not : (b : List ℕ) → not x ≡ true → 0 ≡ cond (allowed W H && leb (pageBytes (measureOf W H)) (length b)) (onesAll (take (pageBytes (measureOf W H)) b)) 0
+  dots-not b e = rw (← a, not-true x e)
+
+  module _ (b : List ℕ) (g : Measure) (e : not x ≡ false) (m : g ≡ measureOf W H) where
+    pub dots-short : length b < g .high * g .wide → 0 ≡ cond (allowed W H && leb (pageBytes (measureOf W H)) (length b)) (onesAll (take (pageBytes (measureOf W H)) b)) 0
+    dots-short l = let z = lt-leb (pageBytes (measureOf W H)) (length b) (rw m at l) in rw (← a, not-false x e, z)
+
+    pub dots-told : (r n : ℕ) → g .high * g .wide ≤ length b → n ≡ g .high * g .wide → r ≡ onesAll (take n b) → r ≡ cond (allowed W H && leb (pageBytes (measureOf W H)) (length b)) (onesAll (take (pageBytes (measureOf W H)) b)) 0
+    dots-told r n l i h =
+        let z = le-leb (pageBytes (measureOf W H)) (length b) (rw m at l) in
+        let q : n ≡ pageBytes (measureOf W H) = rw m at i in
+        rw (← a, not-false x e, z) (h ∙ ap (λ k. onesAll (take k b)) q)
+
+module _ (r : Ran) (b : List ℕ) where
+  -- a run that was carried out
+  pub back-carried : (n : ℕ) (after : List ℕ) → r .verdict ≡ Carried → n ≡ findingNumber (r .finding) → after ≡ sets b 0 (stateBytes (r .state)) → (n ≡ ranNumber r) × (after ≡ keptAfter r b)
+  back-carried n after f h k = (rw f h, rw f k)
+
+  -- one that was refused
+  pub back-refused : (n : ℕ) (why : Refusal) → r .verdict ≡ Refused why → n ≡ refusalNumber why → (n ≡ ranNumber r) × (b ≡ keptAfter r b)
+  back-refused n why f h = (rw f h, rw f)
+
+-- a page has few bytes
+pub page-few : (g : Measure) → Fits g → (l : List ℕ) → length (take (g .high * g .wide - 0) l) ≤ 4294967296
+page-few g h l = rw (length-take, sub-zero) (omega (arith, mul-le-mul (h .high) (h .wide)))
+
+-- a run answered
+pub answered : (W H : ℕ) (page stream state : List ℕ) (allowance place n : ℕ) (page′ state′ : List ℕ) (ended : ℕ) (t : State) (r : Ran) → t ≡ stateAt state → RunPromise W H page stream t place allowance r page′
+    → ended ≡ flagged (r .ended) → (n ≡ ranNumber r) × (state′ ≡ keptAfter r state) → Answered W H page stream state allowance place n page′ state′ (r .place) (r .done) (r .found) ended
+answered W H page stream state allowance place n page′ state′ ended t r e h f k =
+    let g : r ≡ answer W H page stream (stateAt state) place allowance .ran = rw e at (h .given) in
+    record {
+      number = k .0 ∙ ap ranNumber g;
+      page-is = rw e at (h .lent);
+      state-is = k .1 ∙ ap (λ (z : Ran). keptAfter z state) g;
+      place-is = ap (λ (z : Ran). z .place) g;
+      done-is = ap (λ (z : Ran). z .done) g;
+      found-is = ap (λ (z : Ran). z .found) g;
+      ended-is = f ∙ ap (λ (z : Ran). flagged (z .ended)) g;
+    }

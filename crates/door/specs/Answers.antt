@@ -1,0 +1,60 @@
+-- What the functions for C answer: the rules' outcome, as numbers and bytes.
+use mathlib.Core.Path.{_≡_}
+use mathlib.Core.Bool.{Bool, cond, not}
+use mathlib.Core.List.{List}
+use Prim.Native.Nat.{ℕ}
+use lib.Dec.{ltb}
+use lib.ListN.{length}
+use lib.Seq.{sets}
+use Rattle.rules.specs.declared.Refusal.the-variants.{PageMeasure, UnsoundState}
+use Rattle.rules.specs.declared.Verdict.{Verdict}
+use Rattle.rules.specs.declared.Verdict.the-variants.{Carried, Refused}
+use Rattle.rules.specs.declared.Finding.{Finding}
+use Rattle.rules.specs.declared.State.{State}
+use Rattle.rules.specs.declared.Ran.{Ran}
+use Rattle.rules.specs.Measure.{allowed, measureOf}
+use Rattle.rules.specs.Findings.{findingNumber, refusalNumber}
+use Rattle.rules.specs.States.{afresh}
+use Rattle.rules.specs.Run.{answer}
+use Rattle.kept.specs.Kept.{stateAt, stateBytes}
+
+-- the refusal of a state afresh, 0 for none: 10, and 13 where there is no room for a state
+abbrev pub afreshNumber : ℕ → ℕ → List ℕ → ℕ
+afreshNumber W H b = cond (not (allowed W H)) (refusalNumber PageMeasure) (cond (ltb (length b) 808) (refusalNumber UnsoundState) 0)
+
+-- the bytes behind it: a refusal writes nothing
+abbrev pub afreshBytes : ℕ → ℕ → List ℕ → List ℕ
+afreshBytes W H b = cond (not (allowed W H)) b (cond (ltb (length b) 808) b (sets b 0 (stateBytes (afresh (measureOf W H)))))
+
+pub record MadeAfresh (W H : ℕ) (before : List ℕ) (r : ℕ) (after : List ℕ) : Type 0 where
+  pub number : r ≡ afreshNumber W H before
+  pub bytes : after ≡ afreshBytes W H before
+
+-- a call's one number: the refusal's, or else the finding's
+abbrev pub numberOf : Verdict → Finding → ℕ
+numberOf Carried f = findingNumber f
+numberOf (Refused why) f = refusalNumber why
+
+abbrev pub ranNumber : Ran → ℕ
+ranNumber r = numberOf (r .verdict) (r .finding)
+
+-- the state's bytes behind a call: a refusal writes nothing
+abbrev pub bytesBehind : Verdict → State → List ℕ → List ℕ
+bytesBehind Carried t b = sets b 0 (stateBytes t)
+bytesBehind (Refused why) t b = b
+
+abbrev pub keptAfter : Ran → List ℕ → List ℕ
+keptAfter r b = bytesBehind (r .verdict) (r .state) b
+
+abbrev pub flagged : Bool → ℕ
+flagged t = cond t 1 0
+
+-- a run answered: the outcome of the rules in the state that the bytes are read as
+pub record Answered (W H : ℕ) (page stream state : List ℕ) (allowance place n : ℕ) (page′ state′ : List ℕ) (place′ done found ended : ℕ) : Type 0 where
+  pub number : n ≡ ranNumber (answer W H page stream (stateAt state) place allowance .ran)
+  pub page-is : page′ ≡ answer W H page stream (stateAt state) place allowance .page
+  pub state-is : state′ ≡ keptAfter (answer W H page stream (stateAt state) place allowance .ran) state
+  pub place-is : place′ ≡ answer W H page stream (stateAt state) place allowance .ran .place
+  pub done-is : done ≡ answer W H page stream (stateAt state) place allowance .ran .done
+  pub found-is : found ≡ answer W H page stream (stateAt state) place allowance .ran .found
+  pub ended-is : ended ≡ flagged (answer W H page stream (stateAt state) place allowance .ran .ended)

@@ -1,0 +1,117 @@
+// The library for C, include/rovinuset.h: states are kept by the caller as bytes, pages and streams are lent, answers are numbers.
+// Each function takes any numbers and any bytes; what cannot be carried out is refused by the paper's number and writes nothing.
+ghost use mathlib.Core.Path.{_≡_};
+ghost use mathlib.Core.Bool.{cond, _&&_};
+ghost use Prim.Native.Nat.{_≤_};
+ghost use lib.Dec.{leb};
+ghost use lib.ListN.{length, take};
+ghost use Rattle.common.specs.Bits.{onesAll};
+ghost use Rattle.rules.specs.Measure.{allowed, measureOf, pageBytes};
+ghost use Rattle.rules.specs.Sound.{sound};
+ghost use Rattle.kept.specs.Kept.{stateAt};
+ghost use Rattle.door.specs.Answers.{MadeAfresh, ranNumber, keptAfter, flagged, Answered};
+use kept::read_state;
+use kept::write_state;
+use numbered::finding_number;
+use numbered::refusal_number;
+use rules::Ran;
+use rules::Refusal;
+use rules::Verdict;
+use state::afresh;
+use state::allowed;
+use state::measure_of;
+use state::sound;
+
+// The state afresh, for a page of w by h dots.
+#[no_mangle]
+pub extern "C" fn rov_afresh(w: usize, h: usize, state: &mut [u8]) -> u32
+    ensures { λ r. ⌜ MadeAfresh w h (now (state .entry)) r (now (state .exit)) ⌝ }
+{
+    if !allowed(w, h) {
+        return refusal_number(Refusal::PageMeasure);
+    }
+    if state.len() < 808 {
+        return refusal_number(Refusal::UnsoundState);
+    }
+    let g = measure_of(w, h);
+    let t = afresh(g);
+    write_state(t, state);
+    0
+}
+
+// Whether the bytes are a state that is sound on a page of w by h dots.
+#[no_mangle]
+pub extern "C" fn rov_sound(w: usize, h: usize, state: &[u8]) -> bool
+    ensures { λ r. ⌜ r ≡ (allowed w h && sound (measureOf w h) (stateAt (now (state .entry)))) ⌝ }
+{
+    if !allowed(w, h) {
+        return false;
+    }
+    let g = measure_of(w, h);
+    let t = read_state(state);
+    sound(g, t)
+}
+
+// The dots set on a page of w by h dots; 0 where the buffer holds none.
+#[no_mangle]
+pub extern "C" fn rov_dots(w: usize, h: usize, page: &[u8]) -> usize
+    ensures { λ r. ⌜ r ≡ cond (allowed w h && leb (pageBytes (measureOf w h)) (length (now (page .entry)))) (onesAll (take (pageBytes (measureOf w h)) (now (page .entry)))) 0 ⌝ }
+{
+    if !allowed(w, h) {
+        return 0;
+    }
+    let g = measure_of(w, h);
+    let n = g.high * g.wide;
+    if page.len() < n {
+        return 0;
+    }
+    dots::count(&page[0..n])
+}
+
+// What a run told, as one number; the state behind it is written back where it was carried out.
+fn give_back(r: Ran, state: &mut [u8]) -> u32
+    ensures { λ n. ⌜ (n ≡ ranNumber r) × (now (state .exit) ≡ keptAfter r (now (state .entry))) ⌝ }
+{
+    let verdict = r.verdict;
+    match verdict {
+        Verdict::Carried => {
+            let t = r.state;
+            let finding = r.finding;
+            write_state(t, state);
+            finding_number(finding)
+        }
+        Verdict::Refused(why) => refusal_number(why),
+    }
+}
+
+// A flag as a number.
+fn flag_of(t: bool) -> usize
+    ensures { λ r. ⌜ r ≡ flagged t ⌝ }
+{
+    if t { 1 } else { 0 }
+}
+
+// At most `allowance` items of the stream, from *place on.
+#[no_mangle]
+pub extern "C" fn rov_run(
+    w: usize,
+    h: usize,
+    page: &mut [u8],
+    stream: &[u8],
+    state: &mut [u8],
+    allowance: usize,
+    place: &mut usize,
+    done: &mut usize,
+    found: &mut usize,
+    ended: &mut usize,
+) -> u32
+    ensures { λ n. ⌜ Answered w h (now (page .entry)) (now (stream .entry)) (now (state .entry)) allowance (now (place .entry)) n (now (page .exit)) (now (state .exit)) (now (place .exit)) (now (done .exit)) (now (found .exit)) (now (ended .exit)) ⌝ }
+{
+    let t = read_state(state);
+    let r = run::run(page, w, h, stream, t, *place, allowance);
+    *place = r.place;
+    *done = r.done;
+    *found = r.found;
+    *ended = flag_of(r.ended);
+    give_back(r, state)
+}

@@ -1,0 +1,35 @@
+// The paper's number for each finding and for each refusal.
+ghost use mathlib.Core.Path.{_≡_};
+ghost use Rattle.rules.specs.Findings.{findingNumber, refusalNumber};
+use rules::Finding;
+use rules::Refusal;
+
+// A finding's number, 0 for none.
+pub fn finding_number(f: Finding) -> u32
+    ensures { λ r. ⌜ r ≡ findingNumber f ⌝ }
+{
+    match f {
+        Finding::Nothing => 0,
+        Finding::EndsInside => 1,
+        Finding::CannotStand => 2,
+        Finding::NotCarried => 3,
+        Finding::NotAllowed => 4,
+        Finding::StackLimit => 5,
+        Finding::NotNow => 6,
+        Finding::DamagedRow => 7,
+    }
+}
+
+// A refusal's number.
+pub fn refusal_number(why: Refusal) -> u32
+    ensures { λ r. ⌜ r ≡ refusalNumber why ⌝ }
+{
+    match why {
+        Refusal::PageMeasure => 10,
+        Refusal::PageBuffer => 11,
+        Refusal::StreamLength => 12,
+        Refusal::UnsoundState => 13,
+        Refusal::StartPlace => 14,
+        Refusal::Room => 15,
+    }
+}

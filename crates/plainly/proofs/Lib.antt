@@ -1,0 +1,2 @@
+-- The laws of commands written plain.
+pub mod Writing
