@@ -1,2 +1,3 @@
 pub mod Items
 pub mod Printing
+pub mod Calls
