@@ -1,3 +1,4 @@
 pub mod Items
 pub mod Printing
 pub mod Calls
+pub mod Reporting

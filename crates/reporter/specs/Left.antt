@@ -9,7 +9,7 @@ use Rattle.rules.specs.declared.State.{State}
 use Rattle.rules.specs.Measure.{blank}
 use Rattle.rules.specs.Findings.{isClean}
 use Rattle.rules.specs.Acts.{world}
-use Rattle.rules.specs.Run.{Outcome, trace, enough}
+use Rattle.rules.specs.Run.{Outcome, trace, enough, wholeStream, firstWorld}
 use Rattle.rules.specs.Report.{line, PAGE, fault, faults, itemLines}
 
 -- the page that is being drawn: an unused one is blank, whatever the buffer holds
@@ -31,3 +31,7 @@ counted f = cond (isClean f) 0 1
 abbrev pub printed : ℕ → Outcome → List ℕ → List ℕ
 printed number o s =
     fault (o .ran .found) (o .ran .finding) (cond (o .ran .ended) (line PAGE (number ∷ onesAll (o .page) ∷ []) s) s)
+
+-- the lines of a whole stream
+unfoldable pub streamLines : Measure → List ℕ → List ℕ
+streamLines g s = let l = wholeStream g s .items in itemLines g l 0 1 (firstWorld g) (faults l)

@@ -1,0 +1,166 @@
+-- Successive runs print a stream's lines in order. Assumes nothing.
+use mathlib.Core.Path.{_≡_, refl, ap, ap₂, sym, _∙_, subst}
+use Prim.Native.Nat.{ℕ, zero, suc, _+_, _*_, _/_, _≤_, _<_}
+use native.Mathlib.Nat.{zero-add}
+use native.Mathlib.Omega.{arith}
+use mathlib.Core.List.{List, [], _∷_, _++_}
+use mathlib.Core.Bool.{Bool, true, false, cond, true≢false, false≢true}
+use lib.ListN.{length, drop}
+use lib.Dec.{ltb}
+use borrow.Author.Tests.{ltb-true, lt-ltb, le-ltb}
+use Rattle.common.specs.Bits.{onesAll}
+use Rattle.common.specs.Stores.{Wrote}
+use Rattle.common.proofs.Stores.{wrote-both}
+use Rattle.rules.specs.declared.Finding.{Finding}
+use Rattle.rules.specs.declared.Refusal.the-variants.{StreamLength}
+use Rattle.rules.specs.declared.State.{State}
+use Rattle.rules.specs.declared.Ran.{Ran}
+use Rattle.rules.specs.Measure.{allowed, measureOf, pageBytes, blank}
+use Rattle.rules.specs.States.{freshCore, afresh}
+use Rattle.rules.specs.Sound.{sound}
+use Rattle.rules.specs.Findings.{isClean, findingNumber, refusalNumber}
+use Rattle.rules.specs.Acts.{world, over}
+use Rattle.rules.specs.Run.{Outcome, halted, run, answer, enough, wholeStream, firstWorld, trace}
+use Rattle.rules.specs.Report.{line, SIZE, FAULT, PAGE, REFUSED, fault, faults, lastLines, itemLines, reportLimit, reportWidth, reportHeight, reportPage, report}
+use Rattle.theorems.specs.Facts.{Shaped}
+use Rattle.theorems.specs.Statements.{RunPromise}
+use Rattle.theorems.proofs.Reading.{left}
+use Rattle.theorems.proofs.Measures.{allowed-gives}
+use Rattle.theorems.proofs.Lengths.{fresh-shaped}
+use Rattle.theorems.proofs.Theorems.{afresh-is-sound}
+use Rattle.lines.proofs.Texts.{line-append, cond-append}
+use Rattle.reporter.specs.Left.{drawn, linesLeft, counted, printed, streamLines}
+use Rattle.reporter.proofs.Items.{left-over}
+use Rattle.reporter.proofs.Printing.{behind, Prints, run-prints, run-over, run-nothing}
+use Rattle.reporter.proofs.Calls.{carried, run-shaped, run-kept}
+
+-- ---- texts
+-- a finding's line in front of s
+fault-append : (at : ℕ) (f : Finding) (s : List ℕ) → fault at f s ≡ fault at f [] ++ s
+fault-append at f s = ap (cond (isClean f) s) (line-append FAULT (at ∷ findingNumber f ∷ []) [] s) ∙ go (isClean f) (line FAULT (at ∷ findingNumber f ∷ []) [])
+  where
+    go : (b : Bool) (a : List ℕ) → cond b s (a ++ s) ≡ cond b [] a ++ s
+    go true a = refl
+    go false a = refl
+
+-- what a run prints, in front of s: the line of its finding, and the line of its page
+printed-append : (number : ℕ) (o : Outcome) (s : List ℕ)
+    → printed number o s ≡ fault (o .ran .found) (o .ran .finding) [] ++ (cond (o .ran .ended) (line PAGE (number ∷ onesAll (o .page) ∷ []) []) [] ++ s)
+printed-append number o s =
+    let page : List ℕ = line PAGE (number ∷ onesAll (o .page) ∷ []) [] in
+    fault-append (o .ran .found) (o .ran .finding) _
+    ∙ ap (λ r. fault (o .ran .found) (o .ran .finding) [] ++ r)
+    (ap (λ r. cond (o .ran .ended) r s) (line-append PAGE (number ∷ onesAll (o .page) ∷ []) [] s) ∙ cond-append (o .ran .ended) page s)
+
+-- ---- the loop that writes the lines of a stream: with the lines that are left all are written
+pub record Reporting (W H : ℕ) (s before : List ℕ) (at : ℕ) (page room : List ℕ) (t : State) (place number findings next : ℕ) : Type 0 where
+  pub sized : length page ≡ H * (W / 8)
+  pub kept : length room ≡ length before
+  pub sound : sound (measureOf W H) t ≡ true
+  pub shaped : Shaped (t .core)
+  pub placed : place ≤ length s
+  pub pages : number + left (t .sequence) (drop place s) ≤ 2 * length s + 1
+  pub found : findings + left (t .sequence) (drop place s) ≤ 2 * length s
+  pub ends : (after : List ℕ) (r : ℕ) → Wrote room next (linesLeft (measureOf W H) t (drop place s) place number (drawn (measureOf W H) t page) findings) after r
+      → Wrote before at (streamLines (measureOf W H) s) after r
+
+module _ (W H : ℕ) (allow : allowed W H ≡ true) where
+  -- nothing is written yet
+  pub reporting-start : (s room : List ℕ) (at : ℕ) (page : List ℕ) → length page ≡ H * (W / 8) → Reporting W H s room at page room (afresh (measureOf W H)) 0 1 0 at
+  unfolding left afresh
+  reporting-start s room at page e = record {
+    sized = e;
+    kept = refl;
+    sound = afresh-is-sound W H allow;
+    shaped = fresh-shaped (measureOf W H);
+    placed = omega arith;
+    pages = omega arith;
+    found = omega arith;
+    ends = λ after r w. subst (λ l. Wrote room at l after r) first w;
+  }
+    where
+      first : linesLeft (measureOf W H) (afresh (measureOf W H)) (drop 0 s) 0 1 (drawn (measureOf W H) (afresh (measureOf W H)) page) 0 ≡ streamLines (measureOf W H) s
+      first = unfold linesLeft streamLines wholeStream afresh freshCore in rw (zero-add (faults (trace (measureOf W H) (enough s) (afresh (measureOf W H)) s .items)))
+
+  module _ (s before : List ℕ) (at : ℕ) (page room : List ℕ) (t : State) (place number findings next : ℕ) (inv : Reporting W H s before at page room t place number findings next)
+      (long : length s ≤ 1048576) (k : ℕ) (o : Ran) (page′ : List ℕ) (promise : RunPromise W H page s t place (suc k) o page′) where
+    abbrev O : Outcome
+    O = record { ran = o; page = page′ }
+
+    -- what the call gave is a run of the rules
+    ran : run (measureOf W H) (suc k) t place page s ≡ O
+    ran =
+        sym (carried W H page s t place allow (inv .sized) long (inv .sound) (inv .placed) (suc k))
+        ∙ (λ j. record { ran = sym (promise .given) j; page = sym (promise .lent) j })
+
+    -- a run that did something printed what is its to print
+    does : (o .done ≡ 0 → ⊥) → Prints (measureOf W H) s t (drop place s) place 0 number (drawn (measureOf W H) t page) findings O
+    does z = subst (Prints (measureOf W H) s t (drop place s) place 0 number (drawn (measureOf W H) t page) findings) ran
+        (run-prints (measureOf W H) s k t place page number findings (inv .placed) (go (over t (drop place s)) refl))
+      where
+        go : (b : Bool) → over t (drop place s) ≡ b → b ≡ false
+        go true e = absurd (z (ap (λ (r : Outcome). r .ran .done) (sym ran ∙ run-over (measureOf W H) s k t place page e)))
+        go false e = refl
+
+    -- less is left to read
+    pub reporting-less : (o .done ≡ 0 → ⊥) → left (o .state .sequence) (drop (o .place) s) < left (t .sequence) (drop place s)
+    reporting-less z = let l = does z .less in omega arith
+
+    -- the lines of a run are written
+    pub reporting-again : (room1 room2 : List ℕ) (m r : ℕ) → (o .done ≡ 0 → ⊥) → length page′ ≡ length page → length room2 ≡ length room → Wrote room next (fault (o .found) (o .finding) []) room1 m
+        → Wrote room1 m (cond (o .ended) (line PAGE (number ∷ onesAll page′ ∷ []) []) []) room2 r
+        → Reporting W H s before at page′ room2 (o .state) (o .place) (number + cond (o .ended) 1 0) (findings + counted (o .finding)) r
+    reporting-again room1 room2 m r z e f v w =
+        let p = does z in
+        record {
+          sized = e ∙ inv .sized;
+          kept = f ∙ inv .kept;
+          sound = subst (λ (q : Outcome). sound (measureOf W H) (q .ran .state) ≡ true) ran (run-kept (measureOf W H) (allowed-gives W H allow .fits) (suc k) t place page s (inv .shaped) (inv .sound));
+          shaped = subst (λ (q : Outcome). Shaped (q .ran .state .core)) ran (run-shaped (measureOf W H) (allowed-gives W H allow .fits .wide) (suc k) t place page s (inv .shaped));
+          placed = p .inside;
+          pages = one (o .ended);
+          found = one-found (isClean (o .finding));
+          ends = λ after q u. inv .ends after q (rw (p .lines, printed-append number O (behind (measureOf W H) s number findings O)) (wrote-both v (wrote-both w u)));
+        }
+      where
+        one : (b : Bool) → number + cond b 1 0 + left (o .state .sequence) (drop (o .place) s) ≤ 2 * length s + 1
+        one true = let l = reporting-less z in let i = inv .pages in omega arith
+        one false = let l = reporting-less z in let i = inv .pages in omega arith
+
+        one-found : (b : Bool) → findings + cond b 0 1 + left (o .state .sequence) (drop (o .place) s) ≤ 2 * length s
+        one-found true = let l = reporting-less z in let i = inv .found in omega arith
+        one-found false = let l = reporting-less z in let i = inv .found in omega arith
+
+    -- the last lines are written
+    pub reporting-end : (after : List ℕ) (r : ℕ) → o .done ≡ 0 → Wrote room next (lastLines number (world (o .state .core) page′ []) findings) after r → Wrote before at (streamLines (measureOf W H) s) after r
+    reporting-end after r z w = inv .ends after r (subst (λ l. Wrote room next l after r) last w)
+      where
+        done : over t (drop place s) ≡ true
+        done = run-nothing (measureOf W H) s k t place page (ap (λ (q : Outcome). q .ran .done) ran ∙ z)
+
+        -- the state and the page are as they were
+        same : O ≡ halted t place 0 page
+        same = sym ran ∙ run-over (measureOf W H) s k t place page done
+
+        seen : (u : Bool) (a b : List ℕ) → cond u (line PAGE (number ∷ onesAll a ∷ []) b) b ≡ cond u (line PAGE (number ∷ onesAll (cond u a (blank (measureOf W H))) ∷ []) b) b
+        seen true a b = refl
+        seen false a b = refl
+
+        last : lastLines number (world (o .state .core) page′ []) findings ≡ linesLeft (measureOf W H) t (drop place s) place number (drawn (measureOf W H) t page) findings
+        last =
+            ap (λ (q : Outcome). lastLines number (world (q .ran .state .core) (q .page) []) findings) same
+            ∙ seen (t .core .used) page _
+            ∙ sym (left-over (measureOf W H) t (drop place s) place number (drawn (measureOf W H) t page) findings done)
+
+-- ---- the whole report
+module _ {room room1 room2 : List ℕ} {a r : ℕ} (s : List ℕ) (size : Wrote room 0 (line SIZE (reportWidth ∷ reportHeight ∷ []) []) room1 a) where
+  -- of a stream within the limit
+  pub wrote-lines : length s ≤ reportLimit → Wrote room1 a (streamLines reportPage s) room2 r → Wrote room 0 (report s) room2 r
+  unfolding report streamLines
+  wrote-lines h w = rw (le-ltb reportLimit (length s) h, line-append SIZE (reportWidth ∷ reportHeight ∷ []) [] (streamLines reportPage s)) (wrote-both size w)
+
+  -- of a longer one
+  pub wrote-refusal : reportLimit < length s → Wrote room1 a (line REFUSED (refusalNumber StreamLength ∷ []) []) room2 r → Wrote room 0 (report s) room2 r
+  unfolding report
+  wrote-refusal h w =
+      rw (lt-ltb reportLimit (length s) h, line-append SIZE (reportWidth ∷ reportHeight ∷ []) [] (line REFUSED (refusalNumber StreamLength ∷ []) [])) (wrote-both size w)
