@@ -23,7 +23,7 @@ use Rattle.theorems.proofs.Reading.{left}
 use Rattle.theorems.proofs.Streams.{step-left, to-end}
 use Rattle.theorems.proofs.Pages.{step-single, afterItem, item-pages, showAll-core}
 use Rattle.theorems.proofs.Jobs.{same-end}
-use Rattle.reporter.specs.Left.{counted, linesLeft}
+use Rattle.printing.specs.Left.{counted, linesLeft}
 
 -- what is left is less than enough
 pub left-enough : (q : Sequence) (s : List ℕ) → left q s ≤ enough s

@@ -26,8 +26,8 @@ use Rattle.theorems.proofs.Streams.{step-left}
 use Rattle.theorems.proofs.Suffixes.{step-rest, step-took}
 use Rattle.theorems.proofs.Pages.{Blank, showAll-blank, step-single, item-unused}
 use Rattle.theorems.proofs.Runs.{does-one}
-use Rattle.reporter.specs.Left.{drawn, linesLeft, counted, printed}
-use Rattle.reporter.proofs.Items.{left-over, core-next, core-is, left-step, turned}
+use Rattle.printing.specs.Left.{drawn, linesLeft, counted, printed}
+use Rattle.printing.proofs.Items.{left-over, core-next, core-is, left-step, turned}
 
 -- a finding's line has the place of its item
 fault-place : (at : ℕ) (f : Finding) (s : List ℕ) → fault at f s ≡ fault (placeOf f at) f s
@@ -51,7 +51,7 @@ module _ (g : Measure) where
 
     -- what an outcome prints of the lines that were left, and how much less is left to read
     pub record Prints (t : State) (s : List ℕ) (at done number : ℕ) (p : List ℕ) (n : ℕ) (o : Outcome) : Type 0 where
-      pub lines : linesLeft g t s at number p n ≡ printed number o (behind number n o)
+      pub lines : linesLeft g t s at number p n ≡ printed number (o .ran) (o .page) (behind number n o)
       pub less : left (o .ran .state .sequence) (drop (o .ran .place) stream) + o .ran .done ≤ left (t .sequence) s + done
       pub inside : o .ran .place ≤ length stream
 

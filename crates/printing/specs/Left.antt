@@ -6,10 +6,11 @@ use Rattle.common.specs.Bits.{onesAll}
 use Rattle.rules.specs.declared.Measure.{Measure}
 use Rattle.rules.specs.declared.Finding.{Finding}
 use Rattle.rules.specs.declared.State.{State}
+use Rattle.rules.specs.declared.Ran.{Ran}
 use Rattle.rules.specs.Measure.{blank}
 use Rattle.rules.specs.Findings.{isClean}
 use Rattle.rules.specs.Acts.{world}
-use Rattle.rules.specs.Run.{Outcome, trace, enough, wholeStream, firstWorld}
+use Rattle.rules.specs.Run.{trace, enough, wholeStream, firstWorld}
 use Rattle.rules.specs.Report.{line, PAGE, fault, faults, itemLines}
 
 -- the page that is being drawn: an unused one is blank, whatever the buffer holds
@@ -27,10 +28,9 @@ linesLeft g t s at number p n =
 abbrev pub counted : Finding → ℕ
 counted f = cond (isClean f) 0 1
 
--- what a run prints, in front of s: its finding, and the page that it ended
-abbrev pub printed : ℕ → Outcome → List ℕ → List ℕ
-printed number o s =
-    fault (o .ran .found) (o .ran .finding) (cond (o .ran .ended) (line PAGE (number ∷ onesAll (o .page) ∷ []) s) s)
+-- what a run that left the page p prints, in front of s: its finding, and the page that it ended
+abbrev pub printed : ℕ → Ran → List ℕ → List ℕ → List ℕ
+printed number o p s = fault (o .found) (o .finding) (cond (o .ended) (line PAGE (number ∷ onesAll p ∷ []) s) s)
 
 -- the lines of a whole stream
 unfoldable pub streamLines : Measure → List ℕ → List ℕ

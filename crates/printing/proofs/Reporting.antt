@@ -6,11 +6,12 @@ use native.Mathlib.Omega.{arith}
 use mathlib.Core.List.{List, [], _∷_, _++_}
 use mathlib.Core.Bool.{Bool, true, false, cond, true≢false, false≢true}
 use lib.ListN.{length, drop}
-use lib.Dec.{ltb}
-use borrow.Author.Tests.{ltb-true, lt-ltb, le-ltb}
+use lib.Seq.{length-sets}
+use borrow.Author.Tests.{lt-ltb, le-ltb}
 use Rattle.common.specs.Bits.{onesAll}
 use Rattle.common.specs.Stores.{Wrote}
 use Rattle.common.proofs.Stores.{wrote-both}
+use Rattle.rules.specs.declared.Measure.{Measure}
 use Rattle.rules.specs.declared.Finding.{Finding}
 use Rattle.rules.specs.declared.Refusal.the-variants.{StreamLength}
 use Rattle.rules.specs.declared.State.{State}
@@ -29,28 +30,45 @@ use Rattle.theorems.proofs.Measures.{allowed-gives}
 use Rattle.theorems.proofs.Lengths.{fresh-shaped}
 use Rattle.theorems.proofs.Theorems.{afresh-is-sound}
 use Rattle.lines.proofs.Texts.{line-append, cond-append}
-use Rattle.reporter.specs.Left.{drawn, linesLeft, counted, printed, streamLines}
-use Rattle.reporter.proofs.Items.{left-over}
-use Rattle.reporter.proofs.Printing.{behind, Prints, run-prints, run-over, run-nothing}
-use Rattle.reporter.proofs.Calls.{carried, run-shaped, run-kept}
+use Rattle.printing.specs.Left.{drawn, linesLeft, counted, printed, streamLines}
+use Rattle.printing.proofs.Items.{left-over}
+use Rattle.printing.proofs.Printing.{behind, Prints, run-prints, run-over, run-nothing}
+use Rattle.printing.proofs.Calls.{carried, run-shaped, run-kept}
 
 -- ---- texts
--- a finding's line in front of s
-fault-append : (at : ℕ) (f : Finding) (s : List ℕ) → fault at f s ≡ fault at f [] ++ s
-fault-append at f s = ap (cond (isClean f) s) (line-append FAULT (at ∷ findingNumber f ∷ []) [] s) ∙ go (isClean f) (line FAULT (at ∷ findingNumber f ∷ []) [])
+-- a finding's line in front of s and t
+fault-append : (at : ℕ) (f : Finding) (s t : List ℕ) → fault at f (s ++ t) ≡ fault at f s ++ t
+fault-append at f s t = ap (cond (isClean f) (s ++ t)) (line-append FAULT (at ∷ findingNumber f ∷ []) s t) ∙ go (isClean f) (line FAULT (at ∷ findingNumber f ∷ []) s)
   where
-    go : (b : Bool) (a : List ℕ) → cond b s (a ++ s) ≡ cond b [] a ++ s
+    go : (b : Bool) (a : List ℕ) → cond b (s ++ t) (a ++ t) ≡ cond b s a ++ t
     go true a = refl
     go false a = refl
 
--- what a run prints, in front of s: the line of its finding, and the line of its page
-printed-append : (number : ℕ) (o : Outcome) (s : List ℕ)
-    → printed number o s ≡ fault (o .ran .found) (o .ran .finding) [] ++ (cond (o .ran .ended) (line PAGE (number ∷ onesAll (o .page) ∷ []) []) [] ++ s)
-printed-append number o s =
-    let page : List ℕ = line PAGE (number ∷ onesAll (o .page) ∷ []) [] in
-    fault-append (o .ran .found) (o .ran .finding) _
-    ∙ ap (λ r. fault (o .ran .found) (o .ran .finding) [] ++ r)
-    (ap (λ r. cond (o .ran .ended) r s) (line-append PAGE (number ∷ onesAll (o .page) ∷ []) [] s) ∙ cond-append (o .ran .ended) page s)
+-- what a run prints in front of s: its lines, and then s
+printed-append : (number : ℕ) (o : Ran) (p s : List ℕ) → printed number o p s ≡ printed number o p [] ++ s
+printed-append number o p s =
+    let page : List ℕ = line PAGE (number ∷ onesAll p ∷ []) [] in
+    ap (λ r. fault (o .found) (o .finding) (cond (o .ended) r s)) (line-append PAGE (number ∷ onesAll p ∷ []) [] s)
+    ∙ ap (fault (o .found) (o .finding)) (cond-append (o .ended) page s)
+    ∙ fault-append (o .found) (o .finding) (cond (o .ended) page []) s
+
+-- they are written one behind the other
+pub wrote-ran : {l l1 l2 : List ℕ} {at a r : ℕ} (number : ℕ) (o : Ran) (p : List ℕ) (f : Finding) → f ≡ o .finding → Wrote l at (fault (o .found) f []) l1 a
+    → Wrote l1 a (cond (o .ended) (line PAGE (number ∷ onesAll p ∷ []) []) []) l2 r → Wrote l at (printed number o p []) l2 r
+wrote-ran number o p f e v w = rw (← e) (rw (fault-append (o .found) f [] (cond (o .ended) (line PAGE (number ∷ onesAll p ∷ []) []) [])) (wrote-both v w))
+
+-- the report's page is allowed
+pub page-allowed : allowed reportWidth reportHeight ≡ true
+unfolding allowed
+page-allowed = refl
+
+-- it is within the largest
+pub page-fits : (g : Measure) → g ≡ reportPage → (g .wide ≤ 600) × (g .high ≤ 6800)
+page-fits g e = rw e (omega arith, omega arith)
+
+-- the state afresh on it
+pub page-afresh : (g : Measure) (t : State) → g ≡ reportPage → t ≡ afresh g → t ≡ afresh reportPage
+page-afresh g t e f = rw e at f
 
 -- ---- the loop that writes the lines of a stream: with the lines that are left all are written
 pub record Reporting (W H : ℕ) (s before : List ℕ) (at : ℕ) (page room : List ℕ) (t : State) (place number findings next : ℕ) : Type 0 where
@@ -66,9 +84,9 @@ pub record Reporting (W H : ℕ) (s before : List ℕ) (at : ℕ) (page room : L
 
 module _ (W H : ℕ) (allow : allowed W H ≡ true) where
   -- nothing is written yet
-  pub reporting-start : (s room : List ℕ) (at : ℕ) (page : List ℕ) → length page ≡ H * (W / 8) → Reporting W H s room at page room (afresh (measureOf W H)) 0 1 0 at
+  fresh : (s room : List ℕ) (at : ℕ) (page : List ℕ) → length page ≡ H * (W / 8) → Reporting W H s room at page room (afresh (measureOf W H)) 0 1 0 at
   unfolding left afresh
-  reporting-start s room at page e = record {
+  fresh s room at page e = record {
     sized = e;
     kept = refl;
     sound = afresh-is-sound W H allow;
@@ -82,15 +100,19 @@ module _ (W H : ℕ) (allow : allowed W H ≡ true) where
       first : linesLeft (measureOf W H) (afresh (measureOf W H)) (drop 0 s) 0 1 (drawn (measureOf W H) (afresh (measureOf W H)) page) 0 ≡ streamLines (measureOf W H) s
       first = unfold linesLeft streamLines wholeStream afresh freshCore in rw (zero-add (faults (trace (measureOf W H) (enough s) (afresh (measureOf W H)) s .items)))
 
+  pub reporting-start : (s room : List ℕ) (at : ℕ) (page : List ℕ) (t : State) → length page ≡ H * (W / 8) → t ≡ afresh (measureOf W H)
+      → Reporting W H s room at page room t 0 1 0 at
+  reporting-start s room at page t e h = rw h (fresh s room at page e)
+
   module _ (s before : List ℕ) (at : ℕ) (page room : List ℕ) (t : State) (place number findings next : ℕ) (inv : Reporting W H s before at page room t place number findings next)
-      (long : length s ≤ 1048576) (k : ℕ) (o : Ran) (page′ : List ℕ) (promise : RunPromise W H page s t place (suc k) o page′) where
+      (long : length s ≤ 65536) (k : ℕ) (o : Ran) (page′ : List ℕ) (promise : RunPromise W H page s t place (suc k) o page′) where
     abbrev O : Outcome
     O = record { ran = o; page = page′ }
 
     -- what the call gave is a run of the rules
     ran : run (measureOf W H) (suc k) t place page s ≡ O
     ran =
-        sym (carried W H page s t place allow (inv .sized) long (inv .sound) (inv .placed) (suc k))
+        sym (carried W H page s t place allow (inv .sized) (omega arith) (inv .sound) (inv .placed) (suc k))
         ∙ (λ j. record { ran = sym (promise .given) j; page = sym (promise .lent) j })
 
     -- a run that did something printed what is its to print
@@ -107,20 +129,19 @@ module _ (W H : ℕ) (allow : allowed W H ≡ true) where
     reporting-less z = let l = does z .less in omega arith
 
     -- the lines of a run are written
-    pub reporting-again : (room1 room2 : List ℕ) (m r : ℕ) → (o .done ≡ 0 → ⊥) → length page′ ≡ length page → length room2 ≡ length room → Wrote room next (fault (o .found) (o .finding) []) room1 m
-        → Wrote room1 m (cond (o .ended) (line PAGE (number ∷ onesAll page′ ∷ []) []) []) room2 r
-        → Reporting W H s before at page′ room2 (o .state) (o .place) (number + cond (o .ended) 1 0) (findings + counted (o .finding)) r
-    reporting-again room1 room2 m r z e f v w =
+    pub reporting-again : (room′ : List ℕ) (r i j : ℕ) → (o .done ≡ 0 → ⊥) → length page′ ≡ length page → i ≡ cond (o .ended) 1 0 → j ≡ counted (o .finding) → Wrote room next (printed number o page′ []) room′ r
+        → Reporting W H s before at page′ room′ (o .state) (o .place) (number + i) (findings + j) r
+    reporting-again room′ r i j z e x y v =
         let p = does z in
-        record {
+        rw (x, y) record {
           sized = e ∙ inv .sized;
-          kept = f ∙ inv .kept;
+          kept = ap length (v .held) ∙ length-sets room next (printed number o page′ []) ∙ inv .kept;
           sound = subst (λ (q : Outcome). sound (measureOf W H) (q .ran .state) ≡ true) ran (run-kept (measureOf W H) (allowed-gives W H allow .fits) (suc k) t place page s (inv .shaped) (inv .sound));
           shaped = subst (λ (q : Outcome). Shaped (q .ran .state .core)) ran (run-shaped (measureOf W H) (allowed-gives W H allow .fits .wide) (suc k) t place page s (inv .shaped));
           placed = p .inside;
           pages = one (o .ended);
           found = one-found (isClean (o .finding));
-          ends = λ after q u. inv .ends after q (rw (p .lines, printed-append number O (behind (measureOf W H) s number findings O)) (wrote-both v (wrote-both w u)));
+          ends = λ after q u. inv .ends after q (rw (p .lines, printed-append number o page′ (behind (measureOf W H) s number findings O)) (wrote-both v u));
         }
       where
         one : (b : Bool) → number + cond b 1 0 + left (o .state .sequence) (drop (o .place) s) ≤ 2 * length s + 1
