@@ -1,7 +1,7 @@
 -- The lines of an item, and of the items behind it. Assumes nothing.
 use mathlib.Core.Path.{_≡_, refl, ap, ap₂, sym, _∙_}
 use Prim.Native.Nat.{ℕ, zero, suc, _+_, _*_, _≤_, _<_}
-use native.Mathlib.Nat.{add-zero}
+use native.Mathlib.Nat.{add-zero, zero-add}
 use native.Mathlib.Numerals.{add-one}
 use native.Mathlib.Omega.{arith}
 use mathlib.Core.List.{List, [], _∷_, _++_}
@@ -15,15 +15,16 @@ use Rattle.rules.specs.declared.Sequence.the-variants.{Closed, Open}
 use Rattle.rules.specs.declared.Finding.{Finding}
 use Rattle.rules.specs.declared.State.{State}
 use Rattle.rules.specs.Measure.{blank}
+use Rattle.rules.specs.States.{afresh}
 use Rattle.rules.specs.Findings.{isClean}
 use Rattle.rules.specs.Acts.{World, world, showAll, nextAll, Done, Step, step, over}
-use Rattle.rules.specs.Run.{pageOf, Trace, traceOf, trace, enough}
+use Rattle.rules.specs.Run.{pageOf, Trace, traceOf, trace, enough, wholeStream}
 use Rattle.rules.specs.Report.{line, PAGE, fault, pageLines, faults, lastLines, itemLines}
 use Rattle.theorems.proofs.Reading.{left}
 use Rattle.theorems.proofs.Streams.{step-left, to-end}
 use Rattle.theorems.proofs.Pages.{step-single, afterItem, item-pages, showAll-core}
 use Rattle.theorems.proofs.Jobs.{same-end}
-use Rattle.printing.specs.Left.{counted, linesLeft}
+use Rattle.printing.specs.Left.{counted, linesLeft, streamLines}
 
 -- what is left is less than enough
 pub left-enough : (q : Sequence) (s : List ℕ) → left q s ≤ enough s
@@ -37,6 +38,11 @@ module _ (g : Measure) where
   unfolding itemLines
   lines-world [] at number w n = refl
   lines-world (i ∷ l) at number w n = refl
+
+  -- the lines of a whole stream are those that are left at its start
+  pub left-whole : (s : List ℕ) → linesLeft g (afresh g) s 0 1 (blank g) 0 ≡ streamLines g s
+  unfolding linesLeft streamLines wholeStream afresh
+  left-whole s = rw (zero-add (faults (trace g (enough s) (afresh g) s .items)))
 
   -- at its end a stream has the last lines alone
   pub left-over : (t : State) (s : List ℕ) (at number : ℕ) (p : List ℕ) (n : ℕ) → over t s ≡ true → linesLeft g t s at number p n ≡ lastLines number (world (t .core) p []) n

@@ -1,7 +1,6 @@
 -- Successive runs print a stream's lines in order. Assumes nothing.
 use mathlib.Core.Path.{_≡_, refl, ap, ap₂, sym, _∙_, subst}
 use Prim.Native.Nat.{ℕ, zero, suc, _+_, _*_, _/_, _≤_, _<_}
-use native.Mathlib.Nat.{zero-add}
 use native.Mathlib.Omega.{arith}
 use mathlib.Core.List.{List, [], _∷_, _++_}
 use mathlib.Core.Bool.{Bool, true, false, cond, true≢false, false≢true}
@@ -21,8 +20,8 @@ use Rattle.rules.specs.States.{freshCore, afresh}
 use Rattle.rules.specs.Sound.{sound}
 use Rattle.rules.specs.Findings.{isClean, findingNumber, refusalNumber}
 use Rattle.rules.specs.Acts.{world, over}
-use Rattle.rules.specs.Run.{Outcome, halted, run, answer, enough, wholeStream, firstWorld, trace}
-use Rattle.rules.specs.Report.{line, SIZE, FAULT, PAGE, REFUSED, fault, faults, lastLines, itemLines, reportLimit, reportWidth, reportHeight, reportPage, report}
+use Rattle.rules.specs.Run.{Outcome, halted, run}
+use Rattle.rules.specs.Report.{line, SIZE, FAULT, PAGE, REFUSED, fault, lastLines, reportLimit, reportWidth, reportHeight, reportPage, report}
 use Rattle.theorems.specs.Facts.{Shaped}
 use Rattle.theorems.specs.Statements.{RunPromise}
 use Rattle.theorems.proofs.Reading.{left}
@@ -31,7 +30,7 @@ use Rattle.theorems.proofs.Lengths.{fresh-shaped}
 use Rattle.theorems.proofs.Theorems.{afresh-is-sound}
 use Rattle.lines.proofs.Texts.{line-append, cond-append}
 use Rattle.printing.specs.Left.{drawn, linesLeft, counted, printed, streamLines}
-use Rattle.printing.proofs.Items.{left-over}
+use Rattle.printing.proofs.Items.{left-whole, left-over}
 use Rattle.printing.proofs.Printing.{behind, Prints, run-prints, run-over, run-nothing}
 use Rattle.printing.proofs.Calls.{carried, run-shaped, run-kept}
 
@@ -85,7 +84,7 @@ pub record Reporting (W H : ℕ) (s before : List ℕ) (at : ℕ) (page room : L
 module _ (W H : ℕ) (allow : allowed W H ≡ true) where
   -- nothing is written yet
   fresh : (s room : List ℕ) (at : ℕ) (page : List ℕ) → length page ≡ H * (W / 8) → Reporting W H s room at page room (afresh (measureOf W H)) 0 1 0 at
-  unfolding left afresh
+  unfolding left afresh freshCore
   fresh s room at page e = record {
     sized = e;
     kept = refl;
@@ -94,11 +93,8 @@ module _ (W H : ℕ) (allow : allowed W H ≡ true) where
     placed = omega arith;
     pages = omega arith;
     found = omega arith;
-    ends = λ after r w. subst (λ l. Wrote room at l after r) first w;
+    ends = λ after r w. subst (λ l. Wrote room at l after r) (left-whole (measureOf W H) s) w;
   }
-    where
-      first : linesLeft (measureOf W H) (afresh (measureOf W H)) (drop 0 s) 0 1 (drawn (measureOf W H) (afresh (measureOf W H)) page) 0 ≡ streamLines (measureOf W H) s
-      first = unfold linesLeft streamLines wholeStream afresh freshCore in rw (zero-add (faults (trace (measureOf W H) (enough s) (afresh (measureOf W H)) s .items)))
 
   pub reporting-start : (s room : List ℕ) (at : ℕ) (page : List ℕ) (t : State) → length page ≡ H * (W / 8) → t ≡ afresh (measureOf W H)
       → Reporting W H s room at page room t 0 1 0 at
