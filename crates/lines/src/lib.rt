@@ -133,7 +133,14 @@ fn write_end(core: Core, findings: usize, room: &mut [u8], at: usize) -> usize
 }
 
 // The last lines: the page that is left, if it is used, and END.
-pub fn write_last(number: usize, core: Core, page: &[u8], findings: usize, room: &mut [u8], at: usize) -> usize
+pub fn write_last(
+    number: usize,
+    core: Core,
+    page: &[u8],
+    findings: usize,
+    room: &mut [u8],
+    at: usize,
+) -> usize
     requires { ⌜ length (now page) ≤ 4294967296 ⌝ }
     ensures { λ r. ⌜ Wrote (now (room .entry)) at (lastLines number (world core (now (page .entry)) []) findings) (now (room .exit)) r ⌝ }
 {

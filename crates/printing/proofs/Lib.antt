@@ -4,3 +4,4 @@ pub mod Calls
 pub mod Reporting
 pub mod Apart
 pub mod Bound
+pub mod Whole

@@ -6,22 +6,20 @@ use mathlib.Core.List.{List, [], _∷_, _++_}
 use mathlib.Core.Bool.{Bool, true, false, cond, true≢false, false≢true}
 use lib.ListN.{length, drop}
 use lib.Seq.{length-sets}
-use borrow.Author.Tests.{lt-ltb, le-ltb}
 use Rattle.common.specs.Bits.{onesAll}
 use Rattle.common.specs.Stores.{Wrote}
 use Rattle.common.proofs.Stores.{wrote-both}
 use Rattle.rules.specs.declared.Measure.{Measure}
 use Rattle.rules.specs.declared.Finding.{Finding}
-use Rattle.rules.specs.declared.Refusal.the-variants.{StreamLength}
 use Rattle.rules.specs.declared.State.{State}
 use Rattle.rules.specs.declared.Ran.{Ran}
 use Rattle.rules.specs.Measure.{allowed, measureOf, pageBytes, blank}
 use Rattle.rules.specs.States.{freshCore, afresh}
 use Rattle.rules.specs.Sound.{sound}
-use Rattle.rules.specs.Findings.{isClean, findingNumber, refusalNumber}
+use Rattle.rules.specs.Findings.{isClean, findingNumber}
 use Rattle.rules.specs.Acts.{world, over}
 use Rattle.rules.specs.Run.{Outcome, halted, run}
-use Rattle.rules.specs.Report.{line, SIZE, FAULT, PAGE, REFUSED, fault, lastLines, reportLimit, reportWidth, reportHeight, reportPage, report}
+use Rattle.rules.specs.Report.{line, FAULT, PAGE, fault, lastLines, reportWidth, reportHeight, reportPage}
 use Rattle.theorems.specs.Facts.{Shaped}
 use Rattle.theorems.specs.Statements.{RunPromise}
 use Rattle.theorems.proofs.Reading.{left}
@@ -168,16 +166,3 @@ module _ (W H : ℕ) (allow : allowed W H ≡ true) where
             ap (λ (q : Outcome). lastLines number (world (q .ran .state .core) (q .page) []) findings) same
             ∙ seen (t .core .used) page _
             ∙ sym (left-over (measureOf W H) t (drop place s) place number (drawn (measureOf W H) t page) findings done)
-
--- ---- the whole report
-module _ {room room1 room2 : List ℕ} {a r : ℕ} (s : List ℕ) (size : Wrote room 0 (line SIZE (reportWidth ∷ reportHeight ∷ []) []) room1 a) where
-  -- of a stream within the limit
-  pub wrote-lines : length s ≤ reportLimit → Wrote room1 a (streamLines reportPage s) room2 r → Wrote room 0 (report s) room2 r
-  unfolding report streamLines
-  wrote-lines h w = rw (le-ltb reportLimit (length s) h, line-append SIZE (reportWidth ∷ reportHeight ∷ []) [] (streamLines reportPage s)) (wrote-both size w)
-
-  -- of a longer one
-  pub wrote-refusal : reportLimit < length s → Wrote room1 a (line REFUSED (refusalNumber StreamLength ∷ []) []) room2 r → Wrote room 0 (report s) room2 r
-  unfolding report
-  wrote-refusal h w =
-      rw (lt-ltb reportLimit (length s) h, line-append SIZE (reportWidth ∷ reportHeight ∷ []) [] (line REFUSED (refusalNumber StreamLength ∷ []) [])) (wrote-both size w)

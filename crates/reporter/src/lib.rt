@@ -7,8 +7,9 @@ ghost use lib.ListN.{length};
 ghost use Rattle.common.specs.Stores.{Wrote};
 ghost use mathlib.Core.List.{[]};
 ghost use Rattle.rules.specs.States.{afresh};
-ghost use Rattle.rules.specs.Report.{reportPage, report};
+ghost use Rattle.rules.specs.Report.{reportPage};
 ghost use Rattle.printing.specs.Left.{counted, printed, streamLines};
+ghost use Rattle.printing.specs.Bound.{Reported};
 use rules::Finding;
 use rules::Ran;
 use rules::State;
@@ -17,7 +18,9 @@ mod run;
 
 // "Reads up to 65,536 bytes of standard input, page 640 × 800."
 const WIDTH: usize = 640;
+
 const HEIGHT: usize = 800;
+
 const LIMIT: usize = 65536;
 
 // The number of a stream that is too long.
@@ -95,7 +98,7 @@ fn write_stream(s: &[u8], page: &mut [u8], room: &mut [u8], at: usize) -> usize
 
 // The report of a stream, as far as there is room; the place behind it is given.
 pub fn write_report(s: &[u8], room: &mut [u8]) -> usize
-    ensures { λ r. ⌜ Wrote (now (room .entry)) 0 (report (now (s .entry))) (now (room .exit)) r ⌝ }
+    ensures { λ r. ⌜ Reported (now (s .entry)) (now (room .entry)) (now (room .exit)) r ⌝ }
 {
     let behind = lines::write_size(WIDTH, HEIGHT, room, 0);
     if LIMIT < s.len() {

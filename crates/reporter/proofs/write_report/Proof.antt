@@ -2,7 +2,7 @@
 use borrow.Author.Needs.{needs}
 use Rattle.reporter.proofs.write_report.Statement.{statement}
 use Rattle.reporter.proofs.write_report.Tie as tie
-use Rattle.printing.proofs.Reporting.{wrote-lines, wrote-refusal}
+use Rattle.printing.proofs.Whole.{reported-lines, reported-refusal}
 
 write-size-requires : tie.Need-write-size-requires
 write-size-requires c κs = search needs
@@ -14,7 +14,7 @@ same-length : tie.Need-same-length
 same-length c = search needs
 
 returns : tie.Need-returns
-returns c = search (wrote-refusal, needs)
+returns c = search (reported-refusal, needs)
 
 slice-aggregate-write-stream : tie.Need-slice-aggregate-write-stream
 slice-aggregate-write-stream c = search needs
@@ -26,7 +26,7 @@ same-length-2 : tie.Need-same-length-2
 same-length-2 c = search needs
 
 returns-2 : tie.Need-returns-2
-returns-2 c = search (wrote-lines, needs)
+returns-2 c = search (reported-lines, needs)
 
 pub write-report-spec : {M : Type 1} → statement M
 write-report-spec =
