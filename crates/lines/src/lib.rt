@@ -3,14 +3,14 @@
 ghost use mathlib.Core.Path.{_≡_};
 ghost use mathlib.Core.Bool.{cond};
 ghost use mathlib.Core.List.{[], _∷_};
-ghost use Prim.Native.Nat.{_+_, _≤_};
+ghost use Prim.Native.Nat.{_≤_};
 ghost use lib.ListN.{length};
 ghost use Rattle.common.specs.Bits.{onesAll};
 ghost use Rattle.common.specs.Stores.{Wrote};
-ghost use Rattle.rules.specs.Findings.{findingNumber, refusalNumber};
+ghost use Rattle.rules.specs.Findings.{findingNumber};
 ghost use Rattle.rules.specs.Plain.{decimal};
 ghost use Rattle.rules.specs.Acts.{world};
-ghost use Rattle.rules.specs.Report.{fields, line, SIZE, FAULT, PAGE, END, REFUSED, fault, lastLines};
+ghost use Rattle.rules.specs.Report.{fields, line, SIZE, PAGE, END, REFUSED, fault, lastLines};
 use number::put_byte;
 use rules::Core;
 use rules::Finding;
