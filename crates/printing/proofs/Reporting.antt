@@ -98,8 +98,8 @@ module _ (W H : ℕ) (allow : allowed W H ≡ true) where
       → Reporting W H s room at page room t 0 1 0 at
   reporting-start s room at page t e h = rw h (fresh s room at page e)
 
-  module _ (s before : List ℕ) (at : ℕ) (page room : List ℕ) (t : State) (place number findings next : ℕ) (inv : Reporting W H s before at page room t place number findings next)
-      (long : length s ≤ 65536) (k : ℕ) (o : Ran) (page′ : List ℕ) (promise : RunPromise W H page s t place (suc k) o page′) where
+  module _ {s before : List ℕ} {at : ℕ} {page room : List ℕ} {t : State} {place number findings next : ℕ} (inv : Reporting W H s before at page room t place number findings next)
+      (long : length s ≤ 65536) (k : ℕ) {o : Ran} {page′ : List ℕ} (promise : RunPromise W H page s t place (suc k) o page′) where
     abbrev O : Outcome
     O = record { ran = o; page = page′ }
 
@@ -123,9 +123,9 @@ module _ (W H : ℕ) (allow : allowed W H ≡ true) where
     reporting-less z = let l = does z .less in omega arith
 
     -- the lines of a run are written
-    pub reporting-again : (room′ : List ℕ) (r i j : ℕ) → (o .done ≡ 0 → ⊥) → length page′ ≡ length page → i ≡ cond (o .ended) 1 0 → j ≡ counted (o .finding) → Wrote room next (printed number o page′ []) room′ r
+    pub reporting-again : {room′ : List ℕ} {r i j : ℕ} → (o .done ≡ 0 → ⊥) → length page′ ≡ length page → i ≡ cond (o .ended) 1 0 → j ≡ counted (o .finding) → Wrote room next (printed number o page′ []) room′ r
         → Reporting W H s before at page′ room′ (o .state) (o .place) (number + i) (findings + j) r
-    reporting-again room′ r i j z e x y v =
+    reporting-again {room′} {r} {i} {j} z e x y v =
         let p = does z in
         rw (x, y) record {
           sized = e ∙ inv .sized;
@@ -147,8 +147,8 @@ module _ (W H : ℕ) (allow : allowed W H ≡ true) where
         one-found false = let l = reporting-less z in let i = inv .found in omega arith
 
     -- the last lines are written
-    pub reporting-end : (after : List ℕ) (r : ℕ) → o .done ≡ 0 → Wrote room next (lastLines number (world (o .state .core) page′ []) findings) after r → Wrote before at (streamLines (measureOf W H) s) after r
-    reporting-end after r z w = inv .ends after r (subst (λ l. Wrote room next l after r) last w)
+    pub reporting-end : {after : List ℕ} {r : ℕ} → o .done ≡ 0 → Wrote room next (lastLines number (world (o .state .core) page′ []) findings) after r → Wrote before at (streamLines (measureOf W H) s) after r
+    reporting-end {after} {r} z w = inv .ends after r (subst (λ l. Wrote room next l after r) last w)
       where
         done : over t (drop place s) ≡ true
         done = run-nothing (measureOf W H) s k t place page (ap (λ (q : Outcome). q .ran .done) ran ∙ z)
