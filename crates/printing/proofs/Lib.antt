@@ -2,6 +2,6 @@ pub mod Items
 pub mod Printing
 pub mod Calls
 pub mod Reporting
-pub mod Apart
+pub mod Ends
 pub mod Bound
 pub mod Whole

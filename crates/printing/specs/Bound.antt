@@ -6,13 +6,11 @@ use lib.ListN.{length, take}
 use Rattle.common.specs.Stores.{Wrote}
 use Rattle.rules.specs.Report.{reportLimit, report}
 
--- the longest line of an item: PAGE, a number of six digits, dots of at most twenty
-abbrev pub longestLine : ℕ
-longestLine = 33
-
--- a line for each item, of which there are at most two to a byte; SIZE; the last page; END
+-- There are at most two items to a byte. A FAULT line has at most 14 bytes: place and number have five digits and one. A PAGE line has
+-- at most 33: six digits and twenty; but an item that ends a page takes a byte of its own. So 34 bytes to a byte of the input,
+-- SIZE (13), a last page (33) and END (88: four numbers of twenty digits).
 abbrev pub longestReport : ℕ
-longestReport = longestLine * (2 * reportLimit) + 13 + longestLine + 88
+longestReport = 34 * reportLimit + 13 + 33 + 88
 
 -- a room of that many bytes holds the report of any input
 abbrev pub ReportsFit : Type 0

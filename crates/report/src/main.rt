@@ -8,10 +8,10 @@ ghost use lib.ListN.{length};
 ghost use Rattle.printing.specs.Bound.{longestReport};
 
 // A room for the longest report, in zeros. A function of its own hides the zeros, of which no proof can count so many.
-fn longest_room() -> [u8; 4325510]
+fn longest_room() -> [u8; 2228358]
     ensures { λ r. ⌜ longestReport ≡ length r ⌝ }
 {
-    [0u8; 4325510]
+    [0u8; 2228358]
 }
 
 fn main() {

@@ -9,7 +9,7 @@ zeros : (n : ℕ) → n ≡ length {A = ℕ} (replicate n 0)
 zeros n = sym (length-replicate n 0)
 
 returns : tie.Need-returns
-returns c = zeros 4325510
+returns c = zeros 2228358
 
 pub longest-room-spec : {M : Type 1} → statement M
 longest-room-spec = tie.close (tie.spec returns)
