@@ -3,8 +3,8 @@ use mathlib.Core.Path.{_≡_, refl, ap, sym, _∙_}
 use Prim.Native.Nat.{ℕ, zero, suc, _+_, _*_, _/_, _%_, _^_, _≤_, _<_}
 use native.Mathlib.Nat.{pow-suc}
 use native.Mathlib.Omega.{arith}
-use mathlib.Core.List.{List, [], _∷_, _++_}
-use mathlib.Core.Bool.{Bool, true, false, cond}
+use mathlib.Core.List.{List, [], _∷_}
+use mathlib.Core.Bool.{Bool, true, false}
 use lib.ListN.{length, length-append}
 use lib.Dec.{ltb}
 use borrow.Author.Tests.{ltb-false}
@@ -19,8 +19,7 @@ use Rattle.rules.specs.States.{afresh}
 use Rattle.rules.specs.Findings.{findingNumber, isClean}
 use Rattle.rules.specs.Plain.{decimalUpTo, decimal}
 use Rattle.rules.specs.Acts.{World, world, step, over, showAll}
-use Rattle.rules.specs.Run.{Trace, traceOf, trace}
-use Rattle.rules.specs.Report.{fields, line, SIZE, REFUSED, reportWidth, reportHeight, reportLimit, reportPage, report, FAULT, PAGE, END, fault, pageLines, lastLines, itemLines}
+use Rattle.rules.specs.Report.{fields, line, SIZE, REFUSED, reportWidth, reportHeight, reportLimit, reportPage, report, PAGE, END, fault, pageLines, lastLines}
 use Rattle.number.proofs.Laws.{decimal-append, decimal-short}
 use Rattle.theorems.proofs.Reading.{left, left-zero}
 use Rattle.theorems.proofs.Streams.{step-left}

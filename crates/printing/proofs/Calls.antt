@@ -1,10 +1,10 @@
 -- A call of run on the report's page: it is not refused, and it is a run of the rules. Assumes nothing.
-use mathlib.Core.Path.{_≡_, refl, ap, ap₂, sym, _∙_, subst}
-use Prim.Native.Nat.{ℕ, zero, suc, _+_, _*_, _≤_, _<_}
+use mathlib.Core.Path.{_≡_, subst}
+use Prim.Native.Nat.{ℕ, zero, suc, _≤_}
 use native.Mathlib.Omega.{arith}
-use mathlib.Core.List.{List, [], _∷_, _++_, append-nil}
-use mathlib.Core.Bool.{Bool, true, false, cond, not}
-use lib.ListN.{length, take, drop, drop-of-length-le}
+use mathlib.Core.List.{List, [], append-nil}
+use mathlib.Core.Bool.{true, false}
+use lib.ListN.{length, drop, drop-of-length-le}
 use lib.Seq.{take-all}
 use lib.Dec.{ltb}
 use borrow.Author.Tests.{le-ltb}
@@ -14,9 +14,8 @@ use Rattle.rules.specs.declared.State.{State}
 use Rattle.rules.specs.Measure.{allowed, measureOf, pageBytes, longestStream}
 use Rattle.rules.specs.Sound.{sound}
 use Rattle.rules.specs.Acts.{step, over}
-use Rattle.rules.specs.Run.{Outcome, runFrom, readied, run, behind, answer, Trace, traceOf, trace}
+use Rattle.rules.specs.Run.{readied, run, answer, Trace, traceOf, trace}
 use Rattle.theorems.specs.Facts.{Fits, Shaped}
-use Rattle.theorems.proofs.Measures.{allowed-gives}
 use Rattle.theorems.proofs.Streams.{step-shaped}
 use Rattle.theorems.proofs.Runs.{follows}
 use Rattle.theorems.proofs.Sound.{state-facts, state-test, run-sound}

@@ -1,14 +1,14 @@
 -- Which items end a page: none with a finding, and none of an open sequence. Assumes nothing.
 use mathlib.Core.Path.{_≡_, refl, ap, sym, _∙_}
 use mathlib.Core.List.{List, [], _∷_}
-use mathlib.Core.Bool.{Bool, true, false, cond, _&&_, true≢false}
+use mathlib.Core.Bool.{false, _&&_, true≢false}
 use lib.ListN.{length, take}
 use Prim.Native.Nat.{ℕ, suc, _+_, _*_, _-_, _≤_}
 use native.Mathlib.Omega.{arith}
 use lib.Dec.{eqb, leb, ltb}
 use Rattle.common.specs.Choice.{within}
 use Rattle.common.specs.Lists.{isNil}
-use Rattle.common.proofs.Choices.{choice, choice-by}
+use Rattle.common.proofs.Choices.{choice}
 use Rattle.rules.specs.declared.Measure.{Measure}
 use Rattle.rules.specs.declared.Value.{Value}
 use Rattle.rules.specs.declared.Sequence.{Sequence}
@@ -25,7 +25,7 @@ use Rattle.rules.specs.Number.{wholePart, count, value}
 use Rattle.rules.specs.Commands.{whole, useOf, usedValue, isNegative, chosen}
 use Rattle.rules.specs.Codes.{codeByte, escapeByte}
 use Rattle.rules.specs.Items.{Item, text, code, two, command, broken, Reading, hasPayload, payload, letter, parameter, isText, read}
-use Rattle.rules.specs.Acts.{Act, type, control, escape, order, print, draw, next, endsPage, World, world, show, showAll, bar, gate, Meaning, meanCode, meanTwo, meanRow, meanCommand, mean, step, isClosed, over}
+use Rattle.rules.specs.Acts.{Act, type, control, escape, order, print, endsPage, world, show, showAll, bar, gate, Meaning, meanCode, meanTwo, meanRow, meanCommand, mean, step, isClosed, over}
 use Rattle.theorems.proofs.Reading.{left, Under, escape-sane}
 
 module _ (g : Measure) where

@@ -1,25 +1,22 @@
 -- The lines of an item, and of the items behind it. Assumes nothing.
-use mathlib.Core.Path.{_≡_, refl, ap, ap₂, sym, _∙_}
-use Prim.Native.Nat.{ℕ, zero, suc, _+_, _*_, _≤_, _<_}
+use mathlib.Core.Path.{_≡_, refl, ap, _∙_}
+use Prim.Native.Nat.{ℕ, _+_, _*_, _≤_}
 use native.Mathlib.Nat.{add-zero, zero-add}
 use native.Mathlib.Numerals.{add-one}
 use native.Mathlib.Omega.{arith}
-use mathlib.Core.List.{List, [], _∷_, _++_}
-use mathlib.Core.Bool.{Bool, true, false, cond, not}
+use mathlib.Core.List.{List, [], _∷_}
+use mathlib.Core.Bool.{Bool, true, false, cond}
 use lib.ListN.{length}
 use Rattle.common.specs.Lists.{isNil}
-use Rattle.common.specs.Bits.{onesAll}
 use Rattle.rules.specs.declared.Measure.{Measure}
 use Rattle.rules.specs.declared.Sequence.{Sequence}
 use Rattle.rules.specs.declared.Sequence.the-variants.{Closed, Open}
-use Rattle.rules.specs.declared.Finding.{Finding}
 use Rattle.rules.specs.declared.State.{State}
 use Rattle.rules.specs.Measure.{blank}
 use Rattle.rules.specs.States.{afresh}
-use Rattle.rules.specs.Findings.{isClean}
 use Rattle.rules.specs.Acts.{World, world, showAll, nextAll, Done, Step, step, over}
-use Rattle.rules.specs.Run.{pageOf, Trace, traceOf, trace, enough, wholeStream}
-use Rattle.rules.specs.Report.{line, PAGE, fault, pageLines, faults, lastLines, itemLines}
+use Rattle.rules.specs.Run.{pageOf, Trace, trace, enough, wholeStream}
+use Rattle.rules.specs.Report.{fault, pageLines, faults, lastLines, itemLines}
 use Rattle.theorems.proofs.Reading.{left}
 use Rattle.theorems.proofs.Streams.{step-left, to-end}
 use Rattle.theorems.proofs.Pages.{step-single, afterItem, item-pages, showAll-core}

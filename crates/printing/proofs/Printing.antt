@@ -1,10 +1,10 @@
 -- What a run prints of the lines that are left. Assumes nothing.
-use mathlib.Core.Path.{_≡_, refl, ap, ap₂, sym, _∙_, subst}
-use Prim.Native.Nat.{ℕ, zero, suc, _+_, _*_, _-_, _≤_, _<_}
+use mathlib.Core.Path.{_≡_, refl, ap, sym, _∙_}
+use Prim.Native.Nat.{ℕ, zero, suc, _+_, _-_, _≤_}
 use native.Mathlib.Nat.{add-zero}
 use native.Mathlib.Omega.{arith}
-use mathlib.Core.List.{List, [], _∷_, _++_}
-use mathlib.Core.Bool.{Bool, true, false, cond, not, _&&_, _||_, true≢false, false≢true}
+use mathlib.Core.List.{List, [], _∷_}
+use mathlib.Core.Bool.{Bool, true, false, cond, not, _&&_, _||_}
 use lib.ListN.{length, drop, length-drop}
 use lib.Seq.{drop-drop}
 use lib.Dec.{eqb·suc-zero}
@@ -13,21 +13,20 @@ use Rattle.common.specs.Bits.{onesAll}
 use Rattle.common.proofs.Choices.{choice-by}
 use Rattle.rules.specs.declared.Measure.{Measure}
 use Rattle.rules.specs.declared.Finding.{Finding}
-use Rattle.rules.specs.declared.Finding.the-variants.{Nothing}
 use Rattle.rules.specs.declared.Verdict.the-variants.{Carried}
 use Rattle.rules.specs.declared.State.{State}
 use Rattle.rules.specs.Measure.{blank}
 use Rattle.rules.specs.Findings.{isClean, findingNumber}
-use Rattle.rules.specs.Acts.{World, world, showAll, nextAll, Step, step, over}
+use Rattle.rules.specs.Acts.{World, world, showAll, Step, step, over}
 use Rattle.rules.specs.Run.{Outcome, outcome, halted, pageOf, placeOf, runFrom, readied, run}
-use Rattle.rules.specs.Report.{line, FAULT, PAGE, fault, pageLines, lastLines}
+use Rattle.rules.specs.Report.{line, FAULT, PAGE, fault, pageLines}
 use Rattle.theorems.proofs.Reading.{left}
 use Rattle.theorems.proofs.Streams.{step-left}
 use Rattle.theorems.proofs.Suffixes.{step-rest, step-took}
 use Rattle.theorems.proofs.Pages.{Blank, showAll-blank, step-single, item-unused}
 use Rattle.theorems.proofs.Runs.{does-one}
 use Rattle.printing.specs.Left.{drawn, linesLeft, counted, printed}
-use Rattle.printing.proofs.Items.{left-over, core-next, core-is, left-step, turned}
+use Rattle.printing.proofs.Items.{core-next, core-is, left-step, turned}
 
 -- a finding's line has the place of its item
 fault-place : (at : ℕ) (f : Finding) (s : List ℕ) → fault at f s ≡ fault (placeOf f at) f s

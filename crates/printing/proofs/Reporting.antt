@@ -1,9 +1,9 @@
 -- Successive runs print a stream's lines in order. Assumes nothing.
-use mathlib.Core.Path.{_≡_, refl, ap, ap₂, sym, _∙_, subst}
-use Prim.Native.Nat.{ℕ, zero, suc, _+_, _*_, _/_, _≤_, _<_}
+use mathlib.Core.Path.{_≡_, refl, ap, sym, _∙_, subst}
+use Prim.Native.Nat.{ℕ, suc, _+_, _*_, _/_, _≤_, _<_}
 use native.Mathlib.Omega.{arith}
 use mathlib.Core.List.{List, [], _∷_, _++_}
-use mathlib.Core.Bool.{Bool, true, false, cond, true≢false, false≢true}
+use mathlib.Core.Bool.{Bool, true, false, cond}
 use lib.ListN.{length, drop}
 use lib.Seq.{length-sets}
 use Rattle.common.specs.Bits.{onesAll}
@@ -13,7 +13,7 @@ use Rattle.rules.specs.declared.Measure.{Measure}
 use Rattle.rules.specs.declared.Finding.{Finding}
 use Rattle.rules.specs.declared.State.{State}
 use Rattle.rules.specs.declared.Ran.{Ran}
-use Rattle.rules.specs.Measure.{allowed, measureOf, pageBytes, blank}
+use Rattle.rules.specs.Measure.{allowed, measureOf, blank}
 use Rattle.rules.specs.States.{freshCore, afresh}
 use Rattle.rules.specs.Sound.{sound}
 use Rattle.rules.specs.Findings.{isClean, findingNumber}

@@ -2,10 +2,10 @@
 // Nothing is refused: a stream over the program's limit has a report that says so, and what has no room is not written.
 ghost use mathlib.Core.Path.{_≡_};
 ghost use mathlib.Core.Bool.{cond};
+ghost use mathlib.Core.List.{[]};
 ghost use Prim.Native.Nat.{_≤_};
 ghost use lib.ListN.{length};
 ghost use Rattle.common.specs.Stores.{Wrote};
-ghost use mathlib.Core.List.{[]};
 ghost use Rattle.rules.specs.States.{afresh};
 ghost use Rattle.rules.specs.Report.{reportPage};
 ghost use Rattle.printing.specs.Left.{counted, printed, streamLines};

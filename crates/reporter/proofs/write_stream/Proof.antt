@@ -3,7 +3,7 @@
 use native.Mathlib.Omega.{arith}
 use borrow.Author.Needs.{needs}
 use Rattle.theorems.proofs.Reading.{left}
-use lib.ListN.{length, drop}
+use lib.ListN.{drop}
 use Rattle.reporter.proofs.write_stream.Statement.{statement}
 use Rattle.reporter.proofs.write_stream.Tie as tie
 use Rattle.printing.proofs.Reporting.{page-allowed, Reporting, reporting-start, reporting-less, reporting-again, reporting-end}
