@@ -62,7 +62,7 @@ pub fn typed_at(g: Measure, at: Spot, l: Layout) -> Spot
 }
 
 // Whether the page is used behind this byte: all but a space mark it.
-fn marked(used: bool, b: u8) -> bool
+pub fn marked(used: bool, b: u8) -> bool
     ensures { λ r. ⌜ r ≡ (used || not (eqb b 32)) ⌝ }
 {
     if used { true } else { b != 32 }

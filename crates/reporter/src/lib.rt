@@ -14,8 +14,6 @@ use rules::Finding;
 use rules::Ran;
 use rules::State;
 
-mod run;
-
 // "Reads up to 65,536 bytes of standard input, page 640 × 800."
 const WIDTH: usize = 640;
 

@@ -1,0 +1,26 @@
+use Rattle.common.proofs.Choices.{choices, compound}
+use native.Mathlib.Omega.{arith}
+use borrow.Author.Needs.{needs}
+use Rattle.items.proofs.escape_of.Statement.{statement}
+use Rattle.items.proofs.escape_of.Tie as tie
+use Rattle.items.proofs.escape_of.Reads as reads
+use Rattle.items.proofs.escape_of.Lts as lts
+
+-- src/lib.rt:120:1
+returns : tie.Need-returns
+returns c = search (choices, needs) depth 12
+
+-- src/lib.rt:120:1
+returns-2 : tie.Need-returns-2
+returns-2 c = search (choices, needs) depth 12
+
+-- src/lib.rt:120:1
+returns-3 : tie.Need-returns-3
+returns-3 c = search (choices, needs) depth 12
+
+-- src/lib.rt:120:1
+returns-4 : tie.Need-returns-4
+returns-4 c = search (choices, needs) depth 12
+
+pub escape-of-spec : {M : Type 1} → statement M
+escape-of-spec = tie.close (tie.spec returns returns-2 returns-3 returns-4)

@@ -1,0 +1,73 @@
+-- What an item did, from its meaning: the acts of the rules, done on the core and shown on the page.
+use mathlib.Core.Path.{_≡_}
+use mathlib.Core.Bool.{Bool, cond, not}
+use mathlib.Core.List.{List, []}
+use Prim.Native.Nat.{ℕ}
+use lib.Dec.{eqb}
+use Rattle.common.specs.Lists.{isNil}
+use Rattle.rules.specs.declared.Measure.{Measure}
+use Rattle.rules.specs.declared.Code.the-variants.{CarriageReturn, LineFeed, FormFeed, Backspace, Tab}
+use Rattle.rules.specs.declared.Escape.the-variants.{Reset, ClearMargins, HalfLine}
+use Rattle.rules.specs.declared.Finding.{Finding}
+use Rattle.rules.specs.declared.Finding.the-variants.{Nothing}
+use Rattle.rules.specs.declared.Core.{Core}
+use Rattle.rules.specs.declared.Beside.{Beside}
+use Rattle.rules.specs.Codes.{codeByte, escapeByte}
+use Rattle.rules.specs.Items as rule
+use Rattle.rules.specs.Acts.{World, world, showAll, nextAll, Meaning, nothingDone, mean}
+use Rattle.rules.specs.Run.{pageOf}
+use Rattle.reader.specs.declared.Item.{Item}
+use Rattle.reader.specs.declared.Item.the-variants.{Text, Code, Two, Command, Broken}
+use Rattle.items.specs.declared.Acted.{Acted}
+use Rattle.items.specs.declared.Coding.{Coding}
+use Rattle.items.specs.declared.Coding.the-variants as coding
+use Rattle.items.specs.declared.Escaping.{Escaping}
+use Rattle.items.specs.declared.Escaping.the-variants as escaping
+
+abbrev pub actedOf : Core → Beside → Finding → Bool → Acted
+actedOf c m f ended = record { core = c; beside = m; finding = f; ended = ended }
+
+-- the core, the page and the pages handed over behind the acts of a meaning
+abbrev pub worldAfter : Measure → Meaning → Core → List ℕ → World
+worldAfter g o c p = showAll g (o .acts) (world c p [])
+
+-- what an item of this meaning gives
+unfoldable pub acted : Measure → Meaning → Core → List ℕ → Acted
+acted g o c p = actedOf (nextAll g (o .acts) c) (o .beside) (o .finding) (not (isNil (worldAfter g o c p .handed)))
+
+-- the page's bytes behind it: the page that is handed over where it ended, as it is
+unfoldable pub pageAfter : Measure → Meaning → Core → List ℕ → List ℕ
+pageAfter g o c p = pageOf (worldAfter g o c p .handed) (worldAfter g o c p .page)
+
+-- r and the page's bytes behind an item of the meaning o, on the core c and the page p
+pub record ActedOn (g : Measure) (o : Meaning) (c : Core) (p : List ℕ) (r : Acted) (after : List ℕ) : Type 0 where
+  pub given : r ≡ acted g o c p
+  pub page : after ≡ pageAfter g o c p
+
+-- the same, whatever the page, which stays as it is
+abbrev pub ActedFor : Measure → Meaning → Core → Acted → Type 0
+ActedFor g o c r = (p : List ℕ) → ActedOn g o c p r p
+
+-- the code that a byte is
+abbrev pub codeOf : ℕ → Coding
+codeOf b =
+    cond (eqb b (codeByte CarriageReturn)) (coding.Known CarriageReturn)
+    (cond (eqb b (codeByte LineFeed)) (coding.Known LineFeed)
+    (cond (eqb b (codeByte FormFeed)) (coding.Known FormFeed)
+    (cond (eqb b (codeByte Backspace)) (coding.Known Backspace)
+    (cond (eqb b (codeByte Tab)) (coding.Known Tab) coding.Ignored))))
+
+-- the two-byte command that a byte names
+abbrev pub escapeOf : ℕ → Escaping
+escapeOf b =
+    cond (eqb b (escapeByte Reset)) (escaping.Known Reset)
+    (cond (eqb b (escapeByte ClearMargins)) (escaping.Known ClearMargins)
+    (cond (eqb b (escapeByte HalfLine)) (escaping.Known HalfLine) escaping.NotCarried))
+
+-- the meaning of an item that is no command
+abbrev pub meanBytes : Measure → Item → Core → Beside → Meaning
+meanBytes g (Text b) c m = mean g (rule.text b) c m
+meanBytes g (Code b) c m = mean g (rule.code b) c m
+meanBytes g (Two b) c m = mean g (rule.two b) c m
+meanBytes g (Command k from to) c m = nothingDone Nothing m
+meanBytes g (Broken f) c m = nothingDone f m

@@ -1,0 +1,18 @@
+use Rattle.run.proofs.Turns.{text-low, text-high}
+use native.Mathlib.Omega.{arith}
+use borrow.Author.Needs.{needs}
+use Rattle.run.proofs.is_text.Statement.{statement}
+use Rattle.run.proofs.is_text.Tie as tie
+use Rattle.run.proofs.is_text.Reads as reads
+use Rattle.run.proofs.is_text.Lts as lts
+
+-- src/lib.rt:57:1
+returns : tie.Need-returns
+returns c = search (text-low, needs)
+
+-- src/lib.rt:57:1
+returns-2 : tie.Need-returns-2
+returns-2 c = search (text-high, needs)
+
+pub is-text-spec : {M : Type 1} → statement M
+is-text-spec = tie.close (tie.spec returns returns-2)
