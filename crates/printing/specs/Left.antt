@@ -1,0 +1,37 @@
+-- The lines of a report that are still to be printed, and what a run prints of them.
+use Prim.Native.Nat.{ℕ, _+_}
+use mathlib.Core.Bool.{cond}
+use mathlib.Core.List.{List, [], _∷_}
+use Rattle.common.specs.Bits.{onesAll}
+use Rattle.rules.specs.declared.Measure.{Measure}
+use Rattle.rules.specs.declared.Finding.{Finding}
+use Rattle.rules.specs.declared.State.{State}
+use Rattle.rules.specs.declared.Ran.{Ran}
+use Rattle.rules.specs.Measure.{blank}
+use Rattle.rules.specs.Findings.{isClean}
+use Rattle.rules.specs.Acts.{world}
+use Rattle.rules.specs.Run.{trace, enough, wholeStream, firstWorld}
+use Rattle.rules.specs.Report.{line, PAGE, fault, faults, itemLines}
+
+-- the page that is being drawn: an unused one is blank, whatever the buffer holds
+abbrev pub drawn : Measure → State → List ℕ → List ℕ
+drawn g t buffer = cond (t .core .used) buffer (blank g)
+
+-- the lines of s, what is left of the stream from the place `at` on: `number` is the number of the page p, which is being drawn,
+-- and n findings were before
+unfoldable pub linesLeft : Measure → State → List ℕ → ℕ → ℕ → List ℕ → ℕ → List ℕ
+linesLeft g t s at number p n =
+    let l = trace g (enough s) t s .items in
+    itemLines g l at number (world (t .core) p []) (n + faults l)
+
+-- a finding counts one
+abbrev pub counted : Finding → ℕ
+counted f = cond (isClean f) 0 1
+
+-- what a run that left the page p prints, in front of s: its finding, and the page that it ended
+abbrev pub printed : ℕ → Ran → List ℕ → List ℕ → List ℕ
+printed number o p s = fault (o .found) (o .finding) (cond (o .ended) (line PAGE (number ∷ onesAll p ∷ []) s) s)
+
+-- the lines of a whole stream
+unfoldable pub streamLines : Measure → List ℕ → List ℕ
+streamLines g s = let l = wholeStream g s .items in itemLines g l 0 1 (firstWorld g) (faults l)
