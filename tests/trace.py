@@ -75,7 +75,8 @@ def without_contract():
 
 def tests():
     """For each kind of test, whether there is one of a name."""
-    table, statements, whole = text("crates/examples/specs/Table.antt"), declared()["Statements"], text("test").split()
+    table, whole = text("crates/examples/specs/Table.antt"), text("test").split()
+    statements = re.findall(r"^(?:pub record|abbrev pub) (\w+)", text("crates/theorems/specs/Statements.antt"), re.M)
 
     def second(name):
         file, _, test = name.partition("::")
@@ -112,7 +113,9 @@ def cited(cell):
 
 def missing_definitions(cell, names):
     for file, name in cited(cell):
-        if file is not None and file not in names:
+        if file is None and not name:
+            yield "no definition at all"
+        elif file is not None and file not in names:
             yield "no file %s" % file
         elif file is not None and name not in names[file]:
             yield "%s has no %s" % (file, name)
@@ -132,21 +135,26 @@ def missing_tests(cell, kinds):
             yield "no %s %s" % (kind, name)
 
 
+def missing(cells, names, known, kinds):
+    """What a row cites and is not there."""
+    if len(cells) != 4:
+        return ["a row has four columns, this one %d" % len(cells)]
+    _, definition, function, test = cells
+    lost = [*missing_definitions(definition, names), *missing_functions(function, known), *missing_tests(test, kinds)]
+    return lost + ["no file " + name for name in re.findall(r"docs/\w+\.md", " ".join(cells)) if not text(name)]
+
+
 def main():
     names, known, kinds = declared(), functions(), tests()
-    rows = entries = 0
+    rows = 0
     wrong = list(without_contract())
     for number, line in enumerate(text("docs/TRACE.md").split("\n"), 1):
-        cells = [cell.strip() for cell in re.split(r"(?<!\\)\|", line)]
-        if len(cells) < 6 or cells[1] in ("Sentence", "---"):
+        cells = [cell.strip() for cell in re.split(r"(?<!\\)\|", line)[1:-1]]
+        if not cells or cells[0] in ("Sentence", "---"):
             continue
         rows += 1
-        definition, function, test = cells[-4:-1]
-        entries += len(list(cited(definition))) + len(function.split(",")) + len(list(cited(test)))
-        lost = [*missing_definitions(definition, names), *missing_functions(function, known), *missing_tests(test, kinds)]
-        lost += ["no file " + name for name in re.findall(r"docs/\w+\.md", line) if not text(name)]
-        wrong += ["docs/TRACE.md:%d: %s" % (number, what) for what in lost]
-    print("\n".join(wrong + ["trace: %d rows, %d entries, %d missing" % (rows, entries, len(wrong))]))
+        wrong += ["docs/TRACE.md:%d: %s" % (number, what) for what in missing(cells, names, known, kinds)]
+    print("\n".join(wrong + ["trace: %d rows, %d missing" % (rows, len(wrong))]))
     sys.exit(1 if wrong or rows < LEAST_ROWS else 0)
 
 
