@@ -1,10 +1,20 @@
 #!/usr/bin/env python3
-"""trace.py [ROOT]: docs/TRACE.md cites only names that exist.
+"""trace.py [ROOT]: docs/TRACE.md cites only what exists, and no row is without a function and a test.
 
-Column 'Definition' of each table is entries parted by `;`, each `File: name, name`. File is a file of crates/rules/specs,
-crates/common/specs, crates/examples/specs or crates/theorems/specs without its ending, or `types`, the declared types of
-crates/rules. A name must be declared there. Entries without a colon are words. One line for each name that is missing, then
-a line with the counts; exit status 1 if one is missing or if there are fewer than 300 rows.
+The columns behind the sentence, in each table:
+
+Definition  entries parted by `;`: `File: name, name`, or words. File is a file of crates/*/specs without its ending, or `types`, the
+            declared types of crates/rules; a name must be declared there.
+Function    entries parted by `,`: `crate::name`, a function of crates/crate/src, or one of FUNCTION_WORDS.
+Test        entries parted by `;`: `kind: name, name`, or one of TEST_WORDS. The kinds and what a name is:
+              example   a number of the table in crates/examples      theorem   a statement of crates/theorems
+              edit      CRATE/NAME of crates/CRATE/must-fail          rule      NAME of tests/edits
+              vector    a stream of a folder of tests/vectors         second    FILE::NAME, a test of second/tests
+              compared  a file that ./test runs                       run       the same
+
+Every docs/NAME.md in a row must be there. Besides, as the paper wants it, every public function must have an `ensures`.
+One line for each thing that is missing, then a line with the counts; exit status 1 if one is missing or if there are fewer than
+300 rows.
 """
 import glob
 import os
@@ -13,40 +23,139 @@ import sys
 
 ROOT = sys.argv[1] if len(sys.argv) > 1 else "."
 LEAST_ROWS = 300
+FUNCTION_WORDS = {"with the translator", "with the report", "with the boundary", "later", "law", "no rule", "all public ones"}
+TEST_WORDS = {"later", "no rule", "by eye"}
+
+
+def text(*parts):
+    path = os.path.join(ROOT, *parts)
+    if not os.path.isfile(path):
+        return ""
+    with open(path, encoding="utf-8") as file:
+        return file.read()
+
+
+def found(pattern):
+    return sorted(os.path.relpath(path, ROOT) for path in glob.glob(os.path.join(ROOT, pattern), recursive=True))
 
 
 def declared():
-    """The names that each file declares: signatures, records, fields, data types and their constructors."""
+    """The names that each file of specs/ declares: signatures, records, fields, data types and their constructors."""
     names = {}
-    for path in glob.glob(os.path.join(ROOT, "crates/*/specs/*.antt")):
-        text = open(path, encoding="utf-8").read()
-        found = set(re.findall(r"^\s*(?:unfoldable |abbrev |pub )*(?:record |data )?([^\s:(]+)[^\n:]*:", text, re.M))
-        found |= {word for line in re.findall(r"^  ([^\n:=]+) :", text, re.M) for word in line.split()}
-        names.setdefault(os.path.basename(path)[:-5], set()).update(found)
-    types = open(os.path.join(ROOT, "crates/rules/src/lib.rt"), encoding="utf-8").read()
-    names["types"] = set(re.findall(r"\b(?:struct|enum) (\w+)", types))
+    for path in found("crates/*/specs/*.antt"):
+        words = set(re.findall(r"^\s*(?:unfoldable |abbrev |pub )*(?:record |data )?([^\s:(]+)[^\n:]*:", text(path), re.M))
+        words |= {word for line in re.findall(r"^  ([^\n:=]+) :", text(path), re.M) for word in line.split()}
+        names.setdefault(os.path.basename(path)[:-5], set()).update(words)
+    names["types"] = set(re.findall(r"\b(?:struct|enum) (\w+)", text("crates/rules/src/lib.rt")))
     return names
 
 
+def functions():
+    """The functions of each crate, as crate::name."""
+    names = set()
+    for path in found("crates/*/src/**/*.rt"):
+        crate = path.split(os.sep)[1]
+        names |= {"%s::%s" % (crate, name) for name in re.findall(r'^(?:pub )?(?:extern "C" )?fn (\w+)', text(path), re.M)}
+    return names
+
+
+def without_contract():
+    """The public functions that promise nothing: no line `ensures ..` before the body."""
+    for path in found("crates/*/src/**/*.rt"):
+        public = None
+        for line in text(path).split("\n"):
+            start = re.match(r'pub (?:extern "C" )?fn (\w+)', line)
+            public = start.group(1) if start else public
+            if re.match(r"\s+ensures\b", line):
+                public = None
+            elif public and line.endswith("{"):
+                yield "%s: %s has no `ensures`" % (path, public)
+                public = None
+
+
+def tests():
+    """For each kind of test, whether there is one of a name."""
+    table, whole = text("crates/examples/specs/Table.antt"), text("test").split()
+    statements = re.findall(r"^(?:pub record|abbrev pub) (\w+)", text("crates/theorems/specs/Statements.antt"), re.M)
+
+    def second(name):
+        file, _, test = name.partition("::")
+        return re.search(r"#\[test\]\s+fn %s\(" % re.escape(test), text("second/tests", file + ".rs"))
+
+    def edit(name):
+        crate, _, label = name.partition("/")
+        return text("crates", crate, "must-fail", label + ".edit")
+
+    def run(name):
+        return text(name) and name in whole
+
+    return {
+        "example": lambda name: re.search(r"^ +-- %s\. " % re.escape(name), table, re.M),
+        "theorem": lambda name: name in statements,
+        "edit": edit,
+        "rule": lambda name: text("tests/edits", name + ".edit"),
+        "vector": lambda name: found("tests/vectors/*/%s.pcl" % name) + found("tests/vectors/*/%s.pcl.xz" % name),
+        "second": second,
+        "compared": run,
+        "run": run,
+    }
+
+
+def cited(cell):
+    """The entries of a cell: (file or kind, name), or (None, words)."""
+    for entry in cell.split(";"):
+        head, colon, rest = entry.partition(":")
+        if colon:
+            yield from ((head.strip(), name.strip()) for name in rest.split(","))
+        else:
+            yield None, entry.strip()
+
+
+def missing_definitions(cell, names):
+    for file, name in cited(cell):
+        if file is None and not name:
+            yield "no definition at all"
+        elif file is not None and file not in names:
+            yield "no file %s" % file
+        elif file is not None and name not in names[file]:
+            yield "%s has no %s" % (file, name)
+
+
+def missing_functions(cell, known):
+    for name in (entry.strip() for entry in cell.split(",")):
+        if name not in known and name not in FUNCTION_WORDS:
+            yield "no function %s" % (name or "at all")
+
+
+def missing_tests(cell, kinds):
+    for kind, name in cited(cell):
+        if kind is None and name not in TEST_WORDS:
+            yield "no test %s" % (name or "at all")
+        elif kind is not None and (kind not in kinds or not kinds[kind](name)):
+            yield "no %s %s" % (kind, name)
+
+
+def missing(cells, names, known, kinds):
+    """What a row cites and is not there."""
+    if len(cells) != 4:
+        return ["a row has four columns, this one %d" % len(cells)]
+    _, definition, function, test = cells
+    lost = [*missing_definitions(definition, names), *missing_functions(function, known), *missing_tests(test, kinds)]
+    return lost + ["no file " + name for name in re.findall(r"docs/\w+\.md", " ".join(cells)) if not text(name)]
+
+
 def main():
-    names = declared()
-    rows = cited = missing = 0
-    for number, line in enumerate(open(os.path.join(ROOT, "docs/TRACE.md"), encoding="utf-8"), 1):
-        cells = [cell.strip() for cell in re.split(r"(?<!\\)\|", line.rstrip("\n"))]
-        if len(cells) < 6 or cells[1] in ("Sentence", "---"):
+    names, known, kinds = declared(), functions(), tests()
+    rows = 0
+    wrong = list(without_contract())
+    for number, line in enumerate(text("docs/TRACE.md").split("\n"), 1):
+        cells = [cell.strip() for cell in re.split(r"(?<!\\)\|", line)[1:-1]]
+        if not cells or cells[0] in ("Sentence", "---"):
             continue
         rows += 1
-        for entry in cells[-4].split(";"):
-            file, colon, rest = entry.partition(":")
-            if not colon or file.strip() not in names:
-                continue
-            for name in rest.split(","):
-                cited += 1
-                if name.strip() not in names[file.strip()]:
-                    missing += 1
-                    print("docs/TRACE.md:%d: %s has no %s" % (number, file.strip(), name.strip()))
-    print("trace: %d rows, %d names, %d missing" % (rows, cited, missing))
-    sys.exit(1 if missing or rows < LEAST_ROWS else 0)
+        wrong += ["docs/TRACE.md:%d: %s" % (number, what) for what in missing(cells, names, known, kinds)]
+    print("\n".join(wrong + ["trace: %d rows, %d missing" % (rows, len(wrong))]))
+    sys.exit(1 if wrong or rows < LEAST_ROWS else 0)
 
 
 main()
