@@ -7,6 +7,7 @@ are random by grammar and at the edges. One KIND and SEED give the same lines
 every time; a smaller COUNT gives the first of them.
 """
 
+import os
 import random
 import sys
 
@@ -527,13 +528,18 @@ def main(words):
     return 0
 
 
-if __name__ == "__main__":
+def told(main):
+    """main's exit status; a failed write is told in one line, with status 1."""
     try:
-        sys.exit(main(sys.argv[1:]))
+        return main(sys.argv[1:])
     except OSError as error:
         # Who reads the lines may stop before their end.
-        print(f"leafcases.py: cannot write: {error.strerror}", file=sys.stderr)
+        print(f"{os.path.basename(sys.argv[0])}: {error.strerror}", file=sys.stderr)
         sys.stderr.flush()
         # No second try to write what is left.
         sys.stdout = None
-        sys.exit(1)
+        return 1
+
+
+if __name__ == "__main__":
+    sys.exit(told(main))

@@ -1,0 +1,118 @@
+/* The stack that one rov_run uses: each stream is run on a stack filled with a pattern, and the lowest word that was changed tells how
+ * deep the call went. Prints the depth for each kind of item and the deepest, in bytes. The call's own arguments and return address are
+ * counted; what an empty function needs on the same stack is not. */
+#include "side.h"
+#include <stdio.h>
+#include <stdlib.h>
+#include <string.h>
+#include <ucontext.h>
+
+enum { W = 4800, H = 6800, PAGE = W / 8 * H, WORDS = 1 << 17 };
+
+static const uint64_t pattern = 0xA5C3F00D5EEDBEEFu;
+static uint64_t words[WORDS];
+static uint8_t page[PAGE], state[ROV_STATE];
+static ucontext_t caller, callee;
+
+/* What the call on the other stack works on; it takes no arguments of its own, and has nothing on that stack. */
+static const uint8_t *stream;
+static size_t stream_n, page_n = PAGE, place, done, found, ended, items;
+static uint32_t code, stopped; /* the last number, and the last that was not 0 */
+
+static void nothing(void) {}
+
+/* To the stream's end, resumed at each stop. */
+static void whole_run(void) {
+    do {
+        code = rov_run(W, H, page, page_n, stream, stream_n, state, ROV_STATE, SIZE_MAX, &place, &done, &found, &ended);
+        if (code) stopped = code;
+        items += done;
+    } while (code < 10 && (code || ended));
+}
+
+static size_t depth_of(void (*function)(void)) {
+    size_t low = 0;
+    for (size_t i = 0; i < WORDS; i++) words[i] = pattern;
+    getcontext(&callee);
+    callee.uc_stack.ss_sp = words;
+    callee.uc_stack.ss_size = sizeof words;
+    callee.uc_link = &caller;
+    makecontext(&callee, function, 0);
+    swapcontext(&caller, &callee);
+    while (low < WORDS && words[low] == pattern) low++;
+    return (WORDS - low) * sizeof words[0];
+}
+
+struct kind {
+    const char *name, *bytes;
+    size_t n;
+    uint32_t finding; /* that the stream must bring about, so that a kind is what its name says */
+};
+#define S(text) text, sizeof(text) - 1
+
+static const struct kind kinds[] = {
+    {"text and spaces", S("Rm 412 MPa \xE4\xFF"), 0},
+    {"codes", S("\r\n\t\b\f\0\x7F"), 0},
+    {"line termination 3", S("\33&k3G\r\n\f"), 0},
+    {"ESC E, used", S("a\33E"), 0},
+    {"ESC 9, ESC =", S("\0339\33="), 0},
+    {"columns and rows", S("\33&a10.5c5.25R\33&a-3c+2R"), 0},
+    {"decipoints", S("\33&a1440h720V\33&a+1.5h-2V"), 0},
+    {"dots", S("\33*p100x50Y\33*p-7x+9Y"), 0},
+    {"margins", S("\33&a5l60M\33&l2E"), 0},
+    {"HMI and VMI", S("\33&k10.5H\33&l7.5C\33&l6D"), 0},
+    {"push and pop", S("\33&f0S\33&f1S"), 0},
+    {"raster start, rows down, end", S("\33*t150R\33*r1A\33*b2m9Y\33*rB\33*rC"), 0},
+    {"transparent text", S("\33&p5X\33E a\xFF"), 0},
+    {"row, method 0, 75", S("\33*b2W\xFF\x80"), 0},
+    {"row, method 0, 100", S("\33*t100R\33*b2W\xFF\x80"), 0},
+    {"row, method 0, 150", S("\33*t150R\33*b2W\xFF\x80"), 0},
+    {"row, method 0, 300", S("\33*t300R\33*b2W\xFF\x80"), 0},
+    {"row, method 0, shifted", S("\33*t300R\33*p3X\33*r1A\33*b2W\xFF\x80"), 0},
+    {"row, method 1", S("\33*b1m4W\x05\xA5\xFF\x0F"), 0},
+    {"row, method 2", S("\33*b2m5W\xFE\xA5\x01\x0F\xF0"), 0},
+    {"row, method 3", S("\33*b2m5w\xFE\xA5\x01\x0F\xF0" "3m3w\x21\x11\x22" "3W\x1F\x00\x77"), 0},
+    {"damaged row, method 1", S("\33*b1m3W\x05\xA5\xFF"), 7},
+    {"damaged row, method 2", S("\33*b2m1W\xFE"), 7},
+    {"damaged row, method 3", S("\33*b3m2W\x1F\xFF"), 7},
+    {"the stream ends in a sequence", S("\33&a12.5"), 1},
+    {"payload is short", S("\33*b9W\x01"), 1},
+    {"a byte that can't stand", S("\33&a1c\n"), 2},
+    {"ESC ESC", S("\33\33E"), 2},
+    {"not carried", S("\33(s5Wabcde\33&l1X\33Z"), 3},
+    {"value not allowed", S("\33&l5D"), 4},
+    {"pop when empty", S("\33&f1S"), 5},
+    {"not allowed at this moment", S("\33*r0A\33*t75R"), 6},
+    {"nothing", S(""), 0},
+};
+
+static void must(int holds, const char *what) {
+    if (holds) return;
+    fprintf(stderr, "stack: %s: not what it should be\n", what);
+    exit(1);
+}
+
+static size_t measured(const struct kind *k) {
+    size_t depth;
+    must(rov_afresh(W, H, state, ROV_STATE) == 0, "afresh");
+    stream = (const uint8_t *)k->bytes;
+    stream_n = k->n;
+    place = items = stopped = 0;
+    depth = depth_of(whole_run) - depth_of(nothing);
+    must(stopped == k->finding && (items > 0) == (stream_n > 0 && stopped < 10), k->name);
+    printf("%-30s %6zu\n", k->name, depth);
+    return depth;
+}
+
+int main(void) {
+    static const struct kind refused = {"a page buffer that is too short", S("a"), 11};
+    size_t deepest = 0, depth;
+    for (size_t i = 0; i <= sizeof kinds / sizeof kinds[0]; i++) {
+        int last = i == sizeof kinds / sizeof kinds[0];
+        if (last) page_n = 0;
+        depth = measured(last ? &refused : &kinds[i]);
+        if (depth > deepest) deepest = depth;
+    }
+    printf("stack: the deepest run used %zu bytes\n", deepest);
+    return 0;
+}
