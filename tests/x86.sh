@@ -2,13 +2,17 @@
 # x86_cc ARGS..: compiles for x86-64, with Debian's cross compiler where the machine is another.
 # x86_run PROGRAM WORDS..: runs such a program, under the kit's own emulator where the machine is another.
 if [ "$(uname -m)" = x86_64 ]; then
-  need gcc gcc
-  x86_cc() { gcc "$@"; }
+  x86_cc() {
+    need gcc gcc
+    gcc "$@"
+  }
   x86_run() { "$@"; }
 else
-  need x86_64-linux-gnu-gcc gcc-x86-64-linux-gnu
   x86_kit=$(dirname "$(dirname "$(readlink -f "$(command -v rt)")")")
   x86_emulator=$x86_kit/on/$(uname -m)/toolchain/bin/qemu-x86_64
-  x86_cc() { x86_64-linux-gnu-gcc -static "$@"; }
+  x86_cc() {
+    need x86_64-linux-gnu-gcc gcc-x86-64-linux-gnu
+    x86_64-linux-gnu-gcc -static "$@"
+  }
   x86_run() { "$x86_emulator" "$@"; }
 fi

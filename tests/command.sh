@@ -1,0 +1,75 @@
+#!/usr/bin/env bash
+# The one command, as a user gives it: reports that are right, and words that are wrong. A line for each failed check, then the
+# count. Exit status 1 on a failure.
+set -eu
+cd "$(dirname "$0")/.."
+export LC_ALL=C
+second=$PWD/second/target/release/second command=$PWD/rovinuset corpus=$PWD/tests/vectors/corpus
+(cd second && cargo build --release --offline --quiet)
+room=$(mktemp -d)
+trap 'rm -rf "$room"' EXIT
+cd "$room" # it works from anywhere
+
+checks=0 failed=0
+# gives STATUS EXPECTED: $status and the file `printed` must be these; EXPECTED is a file.
+gives() {
+  checks=$((checks + 1))
+  if [ "$status" -ne "$1" ] || ! cmp -s "$2" printed; then
+    failed=$((failed + 1))
+    echo "command: $said: status $status, or another text"
+  fi
+}
+# call WORDS..: the command with these words, standard input as it is.
+call() {
+  said="$*" status=0
+  "$command" "$@" >printed 2>errors || status=$?
+}
+# refuses TEXT: status 1, nothing on standard output, and this text in the first line of what it says.
+refuses() {
+  checks=$((checks + 1))
+  if [ "$status" -ne 1 ] || [ -s printed ] || ! head -n 1 errors | grep -qF "$1"; then
+    failed=$((failed + 1))
+    echo "command: $said: status $status, or it does not say: $1"
+  fi
+}
+
+printf '\33&f1S\33*t300R\33*b2W\377\200\f' >paper.pcl
+printf 'SIZE\t640\t800\nFAULT\t0\t5\nPAGE\t1\t9\nEND\t0\t4500\t0\t1\n' >paper.txt
+call report paper.pcl
+gives 0 paper.txt
+call report <paper.pcl
+gives 0 paper.txt
+: >empty
+"$second" report <empty >empty.txt
+call report empty
+gives 0 empty.txt
+call report <&-
+gives 0 empty.txt
+head -c 65537 /dev/zero >longer
+printf 'SIZE\t640\t800\nREFUSED\t12\n' >longer.txt
+call report longer
+gives 0 longer.txt
+for job in gm-curve-150 hp2xx-75 groff-lj4-letter; do
+  "$second" report <"$corpus/$job.pcl" >wanted
+  call report "$corpus/$job.pcl"
+  gives 0 wanted
+done
+
+mkdir folder
+call report nowhere
+refuses "no such file: nowhere"
+call report folder
+refuses "a directory, not a job: folder"
+call report paper.pcl paper.pcl
+refuses "report takes one file"
+call print
+refuses "no such word: print"
+if [ "$(id -u)" != 0 ]; then # root may read everything
+  : >shut
+  chmod 0 shut
+  call report shut
+  refuses "no permission to read: shut"
+fi
+
+echo "command: $checks checks, $failed failed"
+[ "$failed" -eq 0 ]
