@@ -325,7 +325,13 @@ fn put_front(t: State, room: &mut [u8]) -> usize
     let sequence = t.sequence;
     let lengths = put_spot(place, room, 0);
     let others = put_lengths(layout, raster, room, lengths);
-    let flags = put_modes(raster.resolution, layout.termination, t.beside.method, room, others);
+    let flags = put_modes(
+        raster.resolution,
+        layout.termination,
+        t.beside.method,
+        room,
+        others,
+    );
     let first = put_flags(raster.started, core.used, room, flags);
     let depth = put_sequence(sequence, room, first);
     put_depth(core.depth, room, depth)

@@ -16,8 +16,6 @@ ghost use Rattle.rules.specs.Run.{placeOf, runFrom, readied, run, refused};
 ghost use Rattle.theorems.specs.Facts.{Fits, Shaped, SoundState};
 ghost use Rattle.theorems.specs.Statements.{RunPromise};
 ghost use Rattle.run.specs.Turns.{ItemDone, textNext, stopOf, RunsOn};
-use text::marked;
-use text::typed_at;
 use dots::clear;
 use items::do_item;
 use items::is_clean;
@@ -32,6 +30,8 @@ use rules::Verdict;
 use state::allowed;
 use state::measure_of;
 use state::sound;
+use text::marked;
+use text::typed_at;
 
 // What one item comes to besides the page: the state and the place behind it, its finding, and whether it ended the page.
 struct Stepped {
