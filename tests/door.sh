@@ -20,7 +20,7 @@ trap 'rm -rf "$room"' EXIT
 if [ "$side" = plain ]; then
   x86_cc -O2 -Wall -Wextra -DPLAIN tests/doorcases.c bench/reader.c bench/plain.c -o "$room/door"
 else
-  rt staticlib door >"$room/said" 2>&1 || { cat "$room/said" >&2; exit 1; }
+  archive door
   x86_cc -O2 -Wall -Wextra tests/doorcases.c target/staticlib/libdoor.a -o "$room/door"
 fi
 

@@ -17,7 +17,7 @@ if [ "${1:-}" = plain ]; then
   x86_cc -O2 -Wall -Wextra -Drov_afresh=plain_afresh -Drov_sound=plain_sound -Drov_dots=plain_dots -Drov_run=plain_run \
     examples/page.c bench/reader.c bench/plain.c -o "$room/page"
 else
-  rt staticlib door >"$room/said" 2>&1 || { cat "$room/said" >&2; exit 1; }
+  archive door
   x86_cc -O2 -Wall -Wextra examples/page.c target/staticlib/libdoor.a -o "$room/page"
 fi
 

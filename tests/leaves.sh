@@ -13,7 +13,7 @@ room=$(mktemp -d)
 trap 'rm -rf "$room"' EXIT
 
 (cd second && cargo build --release --offline --quiet)
-rt staticlib leaves >"$room/said" 2>&1 || { cat "$room/said" >&2; exit 1; }
+archive leaves
 x86_cc -O2 -Wall -Wextra tests/leaves.c target/staticlib/libleaves.a -o "$room/leaves"
 
 failed=0

@@ -16,3 +16,14 @@ else
   }
   x86_run() { "$x86_emulator" "$@"; }
 fi
+
+# archive CRATE: target/staticlib/libCRATE.a, proved and made where it is missing or older than a source. To be called at the project's root.
+archive() {
+  local made=target/staticlib/lib$1.a said
+  [ ! -f "$made" ] || [ -n "$(find crates crates.txt -newer "$made" -print -quit)" ] || return 0
+  said=$(rt staticlib "$1" 2>&1) || {
+    printf '%s\n' "$said" >&2
+    exit 1
+  }
+  touch "$made"
+}
