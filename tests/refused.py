@@ -9,10 +9,13 @@ proves facts of it is checked. An edit in tests/edits has the lines
     file:, old:, new:   as in a must-fail edit; old stands in the file once
     error: TEXT         the first error must hold this text: the fact that fails
 
-The crates are copied to a folder of their own and proved there first. A line for each edit, then the counts; exit status 1 if
+The crates are copied to a folder of their own and proved there first; edits are tried in copies of that, side by side. A line for each
+edit, then the counts; exit status 1 if
 the copy is not proved, an edit does not apply, is not refused, or is refused for another reason.
 """
+import concurrent.futures
 import os
+import queue
 import re
 import shutil
 import subprocess
@@ -81,7 +84,8 @@ def main():
     folder_of_edits = os.path.join(ROOT, "tests", "edits")
     names = sorted(name for name in os.listdir(folder_of_edits) if name.endswith(".edit"))
     failed = 0
-    with tempfile.TemporaryDirectory() as folder:
+    with tempfile.TemporaryDirectory() as place:
+        folder = os.path.join(place, "crates-as-they-are")
         wanted = set()
         for name in names:
             wanted |= needed(edit_of(os.path.join(folder_of_edits, name))[0]["check"], lines)
@@ -96,11 +100,24 @@ def main():
             status, said = check(folder, name)
             if status != 0:
                 sys.exit("refused.py: %s is not proved before any edit:\n%s" % (name, said[-2000:]))
-        for name in names:
+        copies = queue.Queue()
+        for number in range(min(os.cpu_count() or 1, 4)):
+            copies.put(shutil.copytree(folder, os.path.join(place, "copy%d" % number)))
+
+        def wrong_with(name):
             parts, missing = edit_of(os.path.join(folder_of_edits, name))
-            wrong = "no line " + ", ".join(missing) if missing else tried(folder, parts)
-            failed += 1 if wrong else 0
-            print("%s: %s" % (name[:-5], wrong or "refused at " + parts["error"]), flush=True)
+            if missing:
+                return parts, "no line " + ", ".join(missing)
+            copy = copies.get()
+            try:
+                return parts, tried(copy, parts)
+            finally:
+                copies.put(copy)
+
+        with concurrent.futures.ThreadPoolExecutor(copies.qsize()) as workers:
+            for name, (parts, wrong) in zip(names, workers.map(wrong_with, names)):
+                failed += 1 if wrong else 0
+                print("%s: %s" % (name[:-5], wrong or "refused at " + parts["error"]), flush=True)
     print("refused: %d wrong rules, %d not refused" % (len(names), failed))
     sys.exit(1 if failed or not names else 0)
 
