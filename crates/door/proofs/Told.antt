@@ -1,11 +1,11 @@
 -- What the functions for C answer is what the rules give. Assumes nothing.
-use mathlib.Core.Path.{_≡_, refl, sym, ap, _∙_}
+use mathlib.Core.Path.{_≡_, ap, _∙_}
 use mathlib.Core.Bool.{Bool, true, false, cond, not, _&&_}
 use mathlib.Core.List.{List}
 use Prim.Native.Nat.{ℕ, _*_, _-_, _≤_, _<_}
 use native.Mathlib.Nat.{sub-zero, mul-le-mul}
 use native.Mathlib.Omega.{arith}
-use lib.Dec.{leb, ltb}
+use lib.Dec.{leb}
 use lib.ListN.{length, take, length-take}
 use lib.Seq.{sets}
 use borrow.Author.Tests.{not-true, not-false, lt-ltb, le-ltb, lt-leb, le-leb}
@@ -13,20 +13,18 @@ use Rattle.common.specs.Bits.{onesAll}
 use Rattle.rules.specs.declared.Measure.{Measure}
 use Rattle.rules.specs.declared.Refusal.{Refusal}
 use Rattle.rules.specs.declared.Refusal.the-variants.{PageMeasure, UnsoundState}
-use Rattle.rules.specs.declared.Verdict.{Verdict}
 use Rattle.rules.specs.declared.Verdict.the-variants.{Carried, Refused}
-use Rattle.rules.specs.declared.Finding.{Finding}
 use Rattle.rules.specs.declared.State.{State}
 use Rattle.rules.specs.declared.Ran.{Ran}
 use Rattle.rules.specs.Measure.{allowed, measureOf, pageBytes}
 use Rattle.rules.specs.Findings.{findingNumber, refusalNumber}
 use Rattle.rules.specs.Sound.{sound}
 use Rattle.rules.specs.States.{afresh}
-use Rattle.rules.specs.Run.{Outcome, answer}
+use Rattle.rules.specs.Run.{answer}
 use Rattle.theorems.specs.Statements.{RunPromise}
 use Rattle.theorems.specs.Facts.{Fits}
 use Rattle.kept.specs.Kept.{stateAt, stateBytes}
-use Rattle.door.specs.Answers.{afreshNumber, afreshBytes, MadeAfresh, numberOf, ranNumber, bytesBehind, keptAfter, flagged, Answered}
+use Rattle.door.specs.Answers.{MadeAfresh, ranNumber, keptAfter, flagged, Answered}
 
 module _ (W H : ℕ) (x : Bool) (a : x ≡ allowed W H) where
   -- 10

@@ -2,7 +2,6 @@
 // Each function takes any numbers and any bytes; what cannot be carried out is refused by the paper's number and writes nothing.
 ghost use mathlib.Core.Path.{_≡_};
 ghost use mathlib.Core.Bool.{cond, _&&_};
-ghost use Prim.Native.Nat.{_≤_};
 ghost use lib.Dec.{leb};
 ghost use lib.ListN.{length, take};
 ghost use Rattle.common.specs.Bits.{onesAll};

@@ -9,7 +9,6 @@ ghost use lib.Dec.{eqb};
 ghost use lib.ListN.{getD, length};
 ghost use lib.Seq.{sets};
 ghost use Rattle.common.specs.Stores.{Wrote};
-ghost use Rattle.rules.specs.States.{stateOf};
 ghost use Rattle.kept.specs.Kept.{u32At, u64At, spotAt, layoutAt, rasterAt, stackAt, seedAt, coreAt, isState, sequenceAt, stateAt, four, spotBytes, stackBytes, flag, lengthBytes, modeBytes, sequenceBytes, depthBytes, frontBytes, stateBytes};
 use common::byte_at;
 use common::wide;

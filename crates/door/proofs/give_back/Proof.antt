@@ -1,43 +1,30 @@
+-- `door::give_back` meets its contract. Assumes nothing.
 use Rattle.door.proofs.Told.{back-carried, back-refused}
-use native.Mathlib.Omega.{arith}
 use borrow.Author.Needs.{needs}
 use Rattle.door.proofs.give_back.Statement.{statement}
 use Rattle.door.proofs.give_back.Tie as tie
-use Rattle.door.proofs.give_back.Reads as reads
-use Rattle.door.proofs.give_back.Lts as lts
-use Rattle.kept.proofs.write_state.Reads as write-state-reads
-use Rattle.numbered.proofs.finding_number.Reads as finding-number-reads
-use Rattle.numbered.proofs.refusal_number.Reads as refusal-number-reads
 
--- src/lib.rt:78:17
 enum-told : tie.Need-enum-told
 enum-told c = search needs
 
--- src/lib.rt:80:13
 write-state-requires : tie.Need-write-state-requires
 write-state-requires c κs = search needs
 
--- src/lib.rt:81:13
 finding-number-requires : tie.Need-finding-number-requires
 finding-number-requires c κs = search needs
 
--- src/lib.rt:83:26
 enum-known-verdict : tie.Need-enum-known-verdict
 enum-known-verdict c = search needs
 
--- src/lib.rt:83:34
 refusal-number-requires : tie.Need-refusal-number-requires
 refusal-number-requires c κs = search needs
 
--- src/lib.rt:72:1
 same-length : tie.Need-same-length
 same-length c = search needs
 
--- src/lib.rt:72:1
 returns : tie.Need-returns
 returns c = back-carried (c .before .before .before .before .before .before .before .before .before .args .r) _ _ _ (c .before .before .before .before .before .before .enum-told .given .1) (c .finding-number .ensures) (c .before .before .before .write-state .ensures)
 
--- src/lib.rt:72:1
 returns-2 : tie.Need-returns-2
 returns-2 c = back-refused (c .before .before .before .before .before .args .r) _ _ _ (c .before .before .verdict .given .1) (c .refusal-number .ensures)
 

@@ -1,54 +1,39 @@
+-- `door::rov_dots` meets its contract. Assumes nothing.
 use Rattle.door.proofs.Told.{page-few}
 use native.Mathlib.Nat.{sub-zero}
 use Rattle.run.proofs.Answers.{fits, area-fits}
 use Rattle.door.proofs.Told.{dots-not, dots-short, dots-told}
-use native.Mathlib.Omega.{arith}
 use borrow.Author.Needs.{needs}
 use Rattle.door.proofs.rov_dots.Statement.{statement}
 use Rattle.door.proofs.rov_dots.Tie as tie
-use Rattle.door.proofs.rov_dots.Reads as reads
-use Rattle.door.proofs.rov_dots.Lts as lts
-use Rattle.dots.proofs.count.Reads as count-reads
-use Rattle.state.proofs.allowed.Reads as allowed-reads
-use Rattle.state.proofs.measure_of.Reads as measure-of-reads
 
--- src/lib.rt:60:9
 allowed-requires : tie.Need-allowed-requires
 allowed-requires c κs = search needs
 
--- src/lib.rt:61:9
 returns : tie.Need-returns
 returns c = search (dots-not, needs)
 
--- src/lib.rt:63:9
 measure-of-requires : tie.Need-measure-of-requires
 measure-of-requires c κs = search needs
 
--- src/lib.rt:64:13
 mul-n : tie.Need-mul-n
 mul-n c = area-fits _ (fits _ _ _ (c .before .before .before .allowed .ensures) (c .before .before .if1 .left) _ (c .before .measure-of .ensures))
 
--- src/lib.rt:66:9
 returns-2 : tie.Need-returns-2
 returns-2 c = search (dots-short, needs)
 
--- src/lib.rt:68:17
 sub-count : tie.Need-sub-count
 sub-count c = search needs
 
--- src/lib.rt:68:17
 part-count-start : tie.Need-part-count-start
 part-count-start c = search needs
 
--- src/lib.rt:68:17
 part-count-end : tie.Need-part-count-end
 part-count-end c = search needs
 
--- src/lib.rt:68:5
 count-requires : tie.Need-count-requires
 count-requires c κs = page-few _ (fits _ _ _ (c .before .before .before .before .before .allowed .ensures) (c .before .before .before .before .if1 .left) _ (c .before .before .before .measure-of .ensures)) _
 
--- src/lib.rt:56:1
 returns-3 : tie.Need-returns-3
 returns-3 c = dots-told _ _ _ (c .before .before .before .before .before .before .allowed .ensures) _ _ (c .before .before .before .before .before .if1 .left) (c .before .before .before .before .measure-of .ensures) _ _ (c .before .before .if2 .left) (sub-zero _) (c .count .ensures)
 

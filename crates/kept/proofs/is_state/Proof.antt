@@ -1,29 +1,21 @@
+-- `kept::is_state` meets its contract. Assumes nothing.
 use Rattle.kept.proofs.Parts.{few, unflagged, flagged}
-use native.Mathlib.Omega.{arith}
 use borrow.Author.Needs.{needs}
 use Rattle.kept.proofs.is_state.Statement.{statement}
 use Rattle.kept.proofs.is_state.Tie as tie
-use Rattle.kept.proofs.is_state.Reads as reads
-use Rattle.kept.proofs.is_state.Lts as lts
-use Rattle.common.proofs.byte_at.Reads as byte-at-reads
 
--- src/lib.rt:158:9
 returns : tie.Need-returns
 returns c = search (few, unflagged, flagged, needs)
 
--- src/lib.rt:160:12
 byte-at-requires : tie.Need-byte-at-requires
 byte-at-requires c κs = search needs
 
--- src/lib.rt:161:9
 returns-2 : tie.Need-returns-2
 returns-2 c = search (few, unflagged, flagged, needs)
 
--- src/lib.rt:163:5
 byte-at-requires-2 : tie.Need-byte-at-requires-2
 byte-at-requires-2 c κs = search needs
 
--- src/lib.rt:154:1
 returns-3 : tie.Need-returns-3
 returns-3 c = search (few, unflagged, flagged, needs)
 
