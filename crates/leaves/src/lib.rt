@@ -1,9 +1,9 @@
 // The leaves one by one behind a boundary to C, for tests and measurements: a value, an item, a row, a painting, a count.
 // Each function hands on what its leaf promises; an answer that is an enum is told by numbers. Nothing is refused.
+use numbered::finding_number;
 use reader::Item;
 use reader::ReadItem;
 use rules::Command;
-use rules::Finding;
 use rules::Kind;
 use rules::Sequence;
 use rules::Value;
@@ -14,7 +14,6 @@ ghost use lib.ListN.{length, drop, replicate};
 ghost use Rattle.common.specs.Bits.{onesAll};
 ghost use Rattle.common.specs.Stores.{Wrote};
 ghost use Rattle.rules.specs.Dots.{painted};
-ghost use Rattle.rules.specs.Findings.{findingNumber};
 ghost use Rattle.rules.specs.Number.{value, sizeOf};
 ghost use Rattle.rules.specs.Plain.{putValue};
 ghost use Rattle.reader.specs.Items.{readAt};
@@ -136,22 +135,6 @@ fn command_size(k: Command) -> usize
     }
 }
 
-// A finding's number.
-fn finding_number(f: Finding) -> usize
-    ensures { λ r. ⌜ r ≡ findingNumber f ⌝ }
-{
-    match f {
-        Finding::Nothing => 0,
-        Finding::EndsInside => 1,
-        Finding::CannotStand => 2,
-        Finding::NotCarried => 3,
-        Finding::NotAllowed => 4,
-        Finding::StackLimit => 5,
-        Finding::NotNow => 6,
-        Finding::DamagedRow => 7,
-    }
-}
-
 // What kind of item it is.
 fn item_number(i: Item) -> usize
     ensures { λ r. ⌜ r ≡ itemNumber i ⌝ }
@@ -182,7 +165,7 @@ fn detail_of(i: Item) -> usize
             from: _,
             to: _,
         } => command_number(command),
-        Item::Broken(f) => finding_number(f),
+        Item::Broken(f) => finding_number(f) as usize,
     }
 }
 

@@ -7,11 +7,11 @@ ghost use Prim.Native.Nat.{_≤_};
 ghost use lib.ListN.{length};
 ghost use Rattle.common.specs.Bits.{onesAll};
 ghost use Rattle.common.specs.Stores.{Wrote};
-ghost use Rattle.rules.specs.Findings.{findingNumber};
 ghost use Rattle.rules.specs.Plain.{decimal};
 ghost use Rattle.rules.specs.Acts.{world};
 ghost use Rattle.rules.specs.Report.{fields, line, SIZE, PAGE, END, REFUSED, fault, lastLines};
 use number::put_byte;
+use numbered::finding_number;
 use rules::Core;
 use rules::Finding;
 
@@ -75,27 +75,11 @@ pub fn write_refused(n: usize, room: &mut [u8], at: usize) -> usize
     write_last_field(n, room, behind)
 }
 
-// The paper's number of a finding, 0 where all is well.
-fn number_of(f: Finding) -> usize
-    ensures { λ r. ⌜ r ≡ findingNumber f ⌝ }
-{
-    match f {
-        Finding::Nothing => 0,
-        Finding::EndsInside => 1,
-        Finding::CannotStand => 2,
-        Finding::NotCarried => 3,
-        Finding::NotAllowed => 4,
-        Finding::StackLimit => 5,
-        Finding::NotNow => 6,
-        Finding::DamagedRow => 7,
-    }
-}
-
 // FAULT, place, number; nothing where all is well.
 pub fn write_fault(place: usize, f: Finding, room: &mut [u8], at: usize) -> usize
     ensures { λ r. ⌜ Wrote (now (room .entry)) at (fault place f []) (now (room .exit)) r ⌝ }
 {
-    let n = number_of(f);
+    let n = finding_number(f) as usize;
     if n == 0 {
         return common::least(at, room.len());
     }

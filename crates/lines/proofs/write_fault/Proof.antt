@@ -4,8 +4,11 @@ use Rattle.lines.proofs.write_fault.Statement.{statement}
 use Rattle.lines.proofs.write_fault.Tie as tie
 use Rattle.lines.proofs.Writing.{wrote-clean, wrote-fault}
 
-number-of-requires : tie.Need-number-of-requires
-number-of-requires c κs = search needs
+finding-number-requires : tie.Need-finding-number-requires
+finding-number-requires c κs = search needs
+
+cast-n : tie.Need-cast-n
+cast-n c = search needs
 
 least-requires : tie.Need-least-requires
 least-requires c κs = search needs
@@ -29,7 +32,8 @@ pub write-fault-spec : {M : Type 1} → statement M
 write-fault-spec =
     tie.close
     (tie.spec
-    number-of-requires
+    finding-number-requires
+    cast-n
     least-requires
     returns
     slice-aggregate-write-line
