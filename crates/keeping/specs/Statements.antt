@@ -27,7 +27,7 @@ pub record Takes808 (t : State) : Type 0 where
 abbrev pub StateTakes808 : Type 0
 StateTakes808 = (t : State) → Shaped (t .core) → Takes808 t
 
--- Bytes that are no state are read as one that is sound on no page: a call that is handed them is refused by 13.
+-- Bytes that are no state are read as one that is sound on no page: a call that is handed them is refused, by 13 if by nothing before it.
 abbrev pub NoStateIsRefused : Type 0
 NoStateIsRefused = (g : Measure) (b : List ℕ) → isState b ≡ false → sound g (stateAt b) ≡ false
 
