@@ -1,6 +1,6 @@
 -- Numbers and lists, written as bytes and read again. Assumes nothing.
-use mathlib.Core.Path.{_≡_, refl, sym, ap, _∙_}
-use mathlib.Core.Bool.{Bool, true, false, cond, not, _&&_}
+use mathlib.Core.Path.{_≡_, refl, _∙_}
+use mathlib.Core.Bool.{Bool, true, false, not, _&&_}
 use mathlib.Core.List.{List, [], _∷_, _++_}
 use Prim.Native.Nat.{ℕ, zero, suc, _+_, _*_, _/_, _%_, _≤_, _<_}
 use native.Mathlib.Omega.{arith}
@@ -12,7 +12,7 @@ use borrow.Author.Tests.{leb-true, eqb-true}
 use Rattle.common.proofs.Choices.{and-true}
 use Rattle.rules.specs.declared.Measure.{Measure}
 use Rattle.rules.specs.declared.Spot.{Spot}
-use Rattle.rules.specs.Measure.{LW, LH, spot, origin}
+use Rattle.rules.specs.Measure.{LW, LH, origin}
 use Rattle.rules.specs.Sound.{inPage, allInPage, allFree}
 use Rattle.kept.specs.Kept.{u32At, spotAt, table, flag, spotBytes, stackBytes}
 

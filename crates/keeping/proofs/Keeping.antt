@@ -1,31 +1,36 @@
 -- The theorems of specs/Statements.antt. Assumes nothing.
 use mathlib.Core.Path.{_≡_, refl, sym, ap, _∙_}
-use mathlib.Core.Bool.{Bool, true, false, cond, _&&_}
+use mathlib.Core.Bool.{Bool, true, false, cond, not, _&&_, false≢true}
 use mathlib.Core.List.{List, [], _∷_, _++_, append-assoc}
 use Prim.Native.Nat.{ℕ, _+_, _*_, _/_, _%_, _≤_, _<_}
 use native.Mathlib.Omega.{arith}
-use lib.Dec.{eqb, leb}
+use lib.Dec.{leb, ltb}
 use lib.ListN.{length, getD, take, drop, length-append, List·getD-append}
 use lib.Seq.{sets, sets-eq, length-sets, getD-drop, drop-at}
-use borrow.Author.Tests.{le-leb}
+use borrow.Author.Tests.{le-leb, leb-true, not-false}
 use Rattle.common.specs.Choice.{within}
-use Rattle.common.proofs.Choices.{and-true, and-false-left, and-false-right, within-bounds, oneOf-bounds}
+use Rattle.common.proofs.Choices.{choice, choice-by, and-true, and-false-left, and-false-right, within-bounds, oneOf-bounds}
 use Rattle.rules.specs.declared.Measure.{Measure}
-use Rattle.rules.specs.declared.Spot.{Spot}
 use Rattle.rules.specs.declared.Sequence.{Sequence}
 use Rattle.rules.specs.declared.Sequence.the-variants.{Closed, Open}
+use Rattle.rules.specs.declared.Refusal.the-variants.{PageMeasure, PageBuffer, StreamLength, UnsoundState, StartPlace}
+use Rattle.rules.specs.declared.Verdict.{Verdict}
+use Rattle.rules.specs.declared.Verdict.the-variants.{Carried, Refused}
 use Rattle.rules.specs.declared.Core.{Core}
 use Rattle.rules.specs.declared.State.{State}
-use Rattle.rules.specs.Measure.{LW, LH, measureOf, origin}
+use Rattle.rules.specs.Measure.{LW, LH, allowed, measureOf, pageBytes, longestStream, origin}
 use Rattle.rules.specs.States.{besideOf, stateOf}
 use Rattle.rules.specs.Sound.{resolutions, coreSound, sequenceSound, sound}
-use Rattle.theorems.specs.Facts.{Shaped, SoundCore, SoundState}
+use Rattle.rules.specs.Run.{Outcome, run, refused, behind, answer}
+use Rattle.theorems.specs.Facts.{Shaped, SoundCore}
 use Rattle.theorems.proofs.Measures.{allowed-gives}
+use Rattle.theorems.proofs.Runs.{run-shaped}
 use Rattle.theorems.proofs.Sound.{state-facts}
-use Rattle.kept.specs.Kept.{u32At, u64At, spotAt, stackAt, seedAt, layoutAt, rasterAt, coreAt, isState, sequenceAt, stateAt, spotBytes, stackBytes, flag, lengthBytes, modeBytes, sequenceBytes, depthBytes, frontBytes, stateBytes}
-use Rattle.kept.proofs.Tables.{spot-is}
-use Rattle.kept.proofs.Parts.{layout-is, raster-is, core-is, state-is, closed-is, open-first}
-use Rattle.keeping.specs.Statements.{StateIsReadBack, Takes808, StateTakes808, NoStateIsRefused}
+use Rattle.theorems.proofs.Theorems.{calls-keep-sound}
+use Rattle.kept.specs.Kept.{u64At, spotAt, stackAt, seedAt, layoutAt, rasterAt, coreAt, isState, sequenceAt, stateAt, spotBytes, stackBytes, flag, lengthBytes, modeBytes, depthBytes, frontBytes, stateBytes}
+use Rattle.kept.proofs.Tables.{spot-is, table-length}
+use Rattle.kept.proofs.Parts.{layout-is, raster-is, core-is, state-is, open-first}
+use Rattle.keeping.specs.Statements.{StateIsReadBack, StateTakes808, NoStateIsRefused, CallsGoOn}
 use Rattle.keeping.proofs.Bytes.{four-back, two-back, flag-back, flag-small, table-whole, AllFit, stack-fit, stack-length, stack-back, spot-drop}
 
 -- a state's bytes, with a and b for its sequence and more behind them
@@ -158,3 +163,70 @@ pub no-state-is-refused : NoStateIsRefused
 unfolding sound stateAt
 no-state-is-refused g b e =
     and-false-left _ (sequenceSound (sequenceAt b)) (and-false-right (coreSound g (coreAt b)) (leb (cond (isState b) (getD b 35 0) 255) 3) (rw e))
+
+-- ---- calls
+-- whatever the bytes are, the lists that they are read as have the lengths of their arrays
+read-shaped : (b : List ℕ) → Shaped (stateAt b .core)
+unfolding stateAt
+read-shaped b = (table-length 600 (λ i. getD b (208 + i) 0), table-length 20 (λ i. spotAt b (48 + 8 * i)))
+
+-- bytes that are read as a sound state are enough
+sound-enough : (g : Measure) (b : List ℕ) → sound g (stateAt b) ≡ true → 808 ≤ length b
+sound-enough g b e = go (isState b) refl
+  where
+    go : (x : Bool) → isState b ≡ x → 808 ≤ length b
+    go true f =
+        let p = and-true (leb 808 (length b) && leb (getD b 36 0) 1) (leb (getD b 37 0) 1) f in
+        leb-true 808 (length b) (and-true (leb 808 (length b)) (leb (getD b 36 0) 1) (p .0) .0)
+    go false f = absurd (false≢true (sym (no-state-is-refused g b f) ∙ e))
+
+abbrev isCarried : Verdict → Bool
+isCarried Carried = true
+isCarried (Refused why) = false
+
+no : {A : Type 0} → false ≡ true → A
+no z = absurd (false≢true z)
+
+module _ (W H : ℕ) (page stream : List ℕ) (t : State) (at n : ℕ) where
+  abbrev g : Measure
+  g = measureOf W H
+
+  abbrev p : List ℕ
+  p = take (pageBytes g) page
+
+  abbrev Told : Outcome → Type 0
+  Told o = isCarried (o .ran .verdict) ≡ true → (allowed W H ≡ true) × (sound g t ≡ true)
+
+  abbrev Kept : Outcome → Type 0
+  Kept o = Shaped (o .ran .state .core)
+
+  -- a call that is carried out has an allowed page and a sound state
+  carried-sound : isCarried (answer W H page stream t at n .ran .verdict) ≡ true → (allowed W H ≡ true) × (sound (measureOf W H) t ≡ true)
+  unfolding answer
+  carried-sound =
+      choice-by Told (not (allowed W H)) {a = refused PageMeasure t at page} (λ e. no)
+      (λ a. choice Told (ltb (length page) (pageBytes g)) {a = refused PageBuffer t at page} no
+      (choice Told (ltb longestStream (length stream)) {a = refused StreamLength t at page} no
+      (choice-by Told (not (sound g t)) {a = refused UnsoundState t at page} (λ e. no)
+      (λ s. choice Told (ltb (length stream) at) {a = refused StartPlace t at page} {b = behind g page (run g n t at p stream)} no
+      (λ z. (not-false (allowed W H) a, not-false (sound g t) s))))))
+
+  -- a call keeps the lengths of a state's lists
+  answer-shaped : allowed W H ≡ true → Shaped (t .core) → Shaped (answer W H page stream t at n .ran .state .core)
+  unfolding answer
+  answer-shaped a h =
+      choice Kept (not (allowed W H)) {a = refused PageMeasure t at page} h
+      (choice Kept (ltb (length page) (pageBytes g)) {a = refused PageBuffer t at page} h
+      (choice Kept (ltb longestStream (length stream)) {a = refused StreamLength t at page} h
+      (choice Kept (not (sound g t)) {a = refused UnsoundState t at page} h
+      (choice Kept (ltb (length stream) at) {a = refused StartPlace t at page} {b = behind g page (run g n t at p stream)} h
+      (run-shaped g (allowed-gives W H a .fits .wide) n t at p stream h)))))
+
+pub calls-go-on : CallsGoOn
+calls-go-on W H page stream b at n e =
+    let t = stateAt b in
+    let c = carried-sound W H page stream t at n (ap isCarried e) in
+    state-is-read-back W H (answer W H page stream t at n .ran .state) b (c .0)
+    (calls-keep-sound W H page stream t at n (c .0) (read-shaped b) (c .1))
+    (answer-shaped W H page stream t at n (c .0) (read-shaped b))
+    (sound-enough (measureOf W H) b (c .1))

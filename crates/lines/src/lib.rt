@@ -1,6 +1,5 @@
 // The lines of the report, each written into a room that is lent: its word, its numbers behind tabs, LF.
 // Nothing is refused: what has no room is not written.
-ghost use mathlib.Core.Path.{_≡_};
 ghost use mathlib.Core.Bool.{cond};
 ghost use mathlib.Core.List.{[], _∷_};
 ghost use Prim.Native.Nat.{_≤_};

@@ -1,23 +1,19 @@
 -- A call of run on the report's page: it is not refused, and it is a run of the rules. Assumes nothing.
-use mathlib.Core.Path.{_≡_, subst}
-use Prim.Native.Nat.{ℕ, zero, suc, _≤_}
+use mathlib.Core.Path.{_≡_}
+use Prim.Native.Nat.{ℕ, _≤_}
 use native.Mathlib.Omega.{arith}
-use mathlib.Core.List.{List, [], append-nil}
+use mathlib.Core.List.{List, append-nil}
 use mathlib.Core.Bool.{true, false}
 use lib.ListN.{length, drop, drop-of-length-le}
 use lib.Seq.{take-all}
 use lib.Dec.{ltb}
 use borrow.Author.Tests.{le-ltb}
-use Rattle.common.proofs.Choices.{choice-by}
 use Rattle.rules.specs.declared.Measure.{Measure}
 use Rattle.rules.specs.declared.State.{State}
 use Rattle.rules.specs.Measure.{allowed, measureOf, pageBytes, longestStream}
 use Rattle.rules.specs.Sound.{sound}
-use Rattle.rules.specs.Acts.{step, over}
-use Rattle.rules.specs.Run.{readied, run, answer, Trace, traceOf, trace}
+use Rattle.rules.specs.Run.{readied, run, answer}
 use Rattle.theorems.specs.Facts.{Fits, Shaped}
-use Rattle.theorems.proofs.Streams.{step-shaped}
-use Rattle.theorems.proofs.Runs.{follows}
 use Rattle.theorems.proofs.Sound.{state-facts, state-test, run-sound}
 
 module _ (W H : ℕ) (buffer stream : List ℕ) (t : State) (at : ℕ) (a : allowed W H ≡ true) (b : length buffer ≡ pageBytes (measureOf W H)) (l : length stream ≤ longestStream)
@@ -30,21 +26,6 @@ module _ (W H : ℕ) (buffer stream : List ℕ) (t : State) (at : ℕ) (a : allo
       let m : ltb longestStream (length stream) ≡ false = le-ltb longestStream (length stream) l in
       let o : ltb (length stream) at ≡ false = le-ltb (length stream) at p in
       rw (a, n, m, s, o, take-all (pageBytes (measureOf W H)) buffer (omega arith), drop-of-length-le buffer {i = pageBytes (measureOf W H)} (omega arith), append-nil)
-
-module _ (g : Measure) (small : g .wide ≤ 600) where
-  -- items keep the lengths of a state's lists
-  trace-shaped : (n : ℕ) (t : State) (s : List ℕ) → Shaped (t .core) → Shaped (trace g n t s .state .core)
-  unfolding trace
-  trace-shaped zero t s h = h
-  trace-shaped (suc n) t s h = choice-by (λ (r : Trace). Shaped (r .state .core)) (over t s) {a = traceOf [] t s} (λ e. h)
-      (λ e. trace-shaped n (step g t s .state) (step g t s .rest) (step-shaped g small t s h e))
-
-  -- a run keeps them
-  pub run-shaped : (k : ℕ) (t : State) (at : ℕ) (p stream : List ℕ) → Shaped (t .core) → Shaped (run g k t at p stream .ran .state .core)
-  unfolding run
-  run-shaped k t at p stream h =
-      let f = follows g k t (readied g k t p (drop at stream)) (drop at stream) at 0 in
-      subst (λ (u : State). Shaped (u .core)) (f .state) (trace-shaped (f .items) t (drop at stream) h)
 
 -- a run keeps a state sound
 pub run-kept : (g : Measure) → Fits g → (k : ℕ) (t : State) (at : ℕ) (p stream : List ℕ) → Shaped (t .core) → sound g t ≡ true → sound g (run g k t at p stream .ran .state) ≡ true
