@@ -1,15 +1,15 @@
 -- What the acts of an item do, act by act: to the core, to the method, to the page. Assumes nothing.
-use mathlib.Core.Path.{_≡_, refl, sym, ap, _∙_, subst}
+use mathlib.Core.Path.{_≡_, refl, sym, ap, _∙_}
 use mathlib.Core.Bool.{Bool, true, false, cond, not}
 use mathlib.Core.List.{List, [], _∷_, _++_}
 use Prim.Native.Nat.{ℕ, _+_, _-_, _/_, _≤_, _<_, min}
 use native.Mathlib.Omega.{arith}
 use native.Mathlib.Nat.{min-eq-left}
-use lib.Dec.{eqb, leb}
-use lib.ListN.{length, take, drop, replicate, length-drop, length-replicate}
+use lib.Dec.{eqb}
+use lib.ListN.{length, take, drop, replicate, length-drop}
 use lib.Seq.{take-at}
 use borrow.Author.Tests.{lt-leb, le-leb, eqb-true}
-use Rattle.common.specs.Lists.{isNil, pad}
+use Rattle.common.specs.Lists.{pad}
 use Rattle.rules.specs.declared.Measure.{Measure}
 use Rattle.rules.specs.declared.Value.{Value}
 use Rattle.rules.specs.declared.Kind.{Kind}
@@ -33,8 +33,7 @@ use Rattle.rules.specs.Sound.{allZero}
 use Rattle.rules.specs.Rows.{decoded}
 use Rattle.rules.specs.Dots.{painted}
 use Rattle.rules.specs.Codes.{typed, typedAll, coded, escaped, codeByte, escapeByte}
-use Rattle.rules.specs.Acts.{Act, type, control, escape, order, print, draw, world, show, showAll, next, nextAll, shown, endsPage, besideAfter, bar, gate, Meaning, meaning, nothingDone, meanCode, meanTwo, begun, seedNow, meanRow, meanCommand, mean}
-use Rattle.rules.specs.Run.{pageOf}
+use Rattle.rules.specs.Acts.{Act, type, control, escape, order, print, draw, show, showAll, next, nextAll, shown, endsPage, besideAfter, bar, gate, Meaning, meaning, nothingDone, meanCode, meanTwo, begun, seedNow, meanRow, meanCommand, mean}
 use Rattle.rules.specs.Items as rule
 use Rattle.rows.specs.Decoding.{Decoded}
 use Rattle.raster.specs.Cursor.{movedOn}

@@ -5,7 +5,6 @@ ghost use mathlib.Core.Path.{_≡_};
 ghost use mathlib.Core.Bool.{true, false, cond};
 ghost use mathlib.Core.List.{List};
 ghost use Prim.Native.Nat.{ℕ, _/_, _≤_};
-ghost use lib.Dec.{leb};
 ghost use lib.ListN.{length, drop, take};
 ghost use Rattle.rules.specs.declared.Command.the-variants.{Valued, Method, Print, Row};
 ghost use Rattle.rules.specs.Measure.{dotUnit};

@@ -1,6 +1,6 @@
 -- A call of a run: its refusals in their order, and the run on the page's part of the buffer. Assumes nothing.
-use mathlib.Core.Path.{_≡_, refl, sym, ap, _∙_}
-use mathlib.Core.Bool.{Bool, true, false, cond, not, _||_}
+use mathlib.Core.Path.{_≡_, sym, ap, _∙_}
+use mathlib.Core.Bool.{Bool, true, false, not}
 use mathlib.Core.List.{List, _++_}
 use Prim.Native.Nat.{ℕ, _+_, _*_, _-_, _≤_, _<_}
 use native.Mathlib.Omega.{arith}
@@ -8,8 +8,7 @@ use native.Mathlib.Nat.{sub-zero, mul-le-mul}
 use mir.Syntax.{w64}
 use mir.Val as val
 use lib.Seq.{length-take-le}
-use lib.Dec.{eqb, ltb}
-use lib.ListN.{length, take, drop, replicate}
+use lib.ListN.{length, take, drop}
 use borrow.Author.Tests.{not-true, not-false, lt-ltb, le-ltb}
 use Rattle.rules.specs.declared.Measure.{Measure}
 use Rattle.rules.specs.declared.Refusal.{Refusal}
@@ -18,7 +17,7 @@ use Rattle.rules.specs.declared.State.{State}
 use Rattle.rules.specs.declared.Ran.{Ran}
 use Rattle.rules.specs.Measure.{allowed, measureOf, pageBytes, longestStream}
 use Rattle.rules.specs.Sound.{sound}
-use Rattle.rules.specs.Run.{Outcome, refused, run, answer}
+use Rattle.rules.specs.Run.{refused, run, answer}
 use Rattle.theorems.specs.Statements.{RunPromise}
 use Rattle.theorems.specs.Facts.{Fits, SoundState}
 use Rattle.theorems.proofs.Measures.{allowed-gives}

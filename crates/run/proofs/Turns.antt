@@ -2,7 +2,7 @@
 use mathlib.Core.Path.{_≡_, refl, sym, ap, _∙_}
 use mathlib.Core.Bool.{Bool, true, false, cond, not, _&&_, _||_, false≢true}
 use mathlib.Core.List.{List, [], _∷_, _++_, append-nil}
-use Prim.Native.Nat.{ℕ, zero, suc, _+_, _-_, _≤_, _<_, max, min}
+use Prim.Native.Nat.{ℕ, suc, _+_, _-_, _≤_, _<_, min}
 use native.Mathlib.Nat.{sub-zero, min-eq-left, le-refl}
 use native.Mathlib.Omega.{arith}
 use lib.Dec.{eqb, ltb}
@@ -11,15 +11,14 @@ use mir.Val as val
 use lib.ListN.{length, drop, getD, replicate, drop-of-length-le}
 use borrow.Author.Tests.{ltb-true, eqb-true, lt-ltb, le-ltb, ne-eqb}
 use Rattle.common.specs.Lists.{isNil}
-use Rattle.common.specs.Choice.{within}
 use mathlib.Core.Logic.{⊎-elim}
-use Rattle.common.proofs.Choices.{and-true, choice-by, le-or-lt, within-in, within-under, within-over}
+use Rattle.common.proofs.Choices.{and-true, le-or-lt, within-in, within-under, within-over}
 use Rattle.common.proofs.Places.{cut}
 use Rattle.rules.specs.declared.Measure.{Measure}
 use Rattle.rules.specs.declared.Sequence.{Sequence}
 use Rattle.rules.specs.declared.Sequence.the-variants.{Closed, Open}
 use Rattle.rules.specs.declared.Finding.{Finding}
-use Rattle.rules.specs.declared.Finding.the-variants.{Nothing}
+use Rattle.rules.specs.declared.Finding.the-variants.{Nothing, NotCarried, NotAllowed, EndsInside, CannotStand, StackLimit, NotNow, DamagedRow}
 use Rattle.rules.specs.declared.Verdict.the-variants.{Carried}
 use Rattle.rules.specs.declared.Core.{Core}
 use Rattle.rules.specs.declared.Beside.{Beside}
@@ -31,7 +30,7 @@ use Rattle.rules.specs.States.{stateOf, withAt, withUsed}
 use Rattle.rules.specs.Codes.{typed}
 use Rattle.rules.specs.Items as rule
 use Rattle.rules.specs.Items.{isText, reading, read}
-use Rattle.rules.specs.Acts.{world, showAll, Meaning, mean, step, isClosed, over}
+use Rattle.rules.specs.Acts.{mean, step, isClosed, over}
 use Rattle.rules.specs.Run.{Outcome, outcome, halted, pageOf, placeOf, runFrom, run}
 use Rattle.rules.specs.declared.Spot.{Spot}
 use Rattle.reader.specs.declared.Item.the-variants as found
@@ -42,13 +41,12 @@ use Rattle.text.specs.Cursor.{typedSpot}
 use Rattle.items.specs.declared.Acted.{Acted}
 use Rattle.items.specs.Acted.{actedOf, acted, pageAfter, ActedOn}
 use Rattle.items.proofs.Deeds.{text-done}
-use Rattle.run.specs.declared.Stepped.{Stepped}
-use Rattle.run.specs.Turns.{textNext, shownBy, ItemDone, stopOf, RunsOn}
+use Rattle.run.specs.Turns.{Stepped, textNext, shownBy, ItemDone, stopOf, RunsOn}
 use Rattle.theorems.specs.Facts.{Fits, Shaped, SoundState}
 use Rattle.theorems.proofs.Streams.{step-shaped}
 use Rattle.theorems.proofs.Sound.{step-sound}
 
-abbrev steppedOf : State → ℕ → Finding → Bool → Stepped
+abbrev pub steppedOf : State → ℕ → Finding → Bool → Stepped
 steppedOf t at f ended = record { state = t; next = at; finding = f; ended = ended }
 
 module _ (g : Measure) (t : State) (p s : List ℕ) (at : ℕ) (a : Acted) (after : List ℕ) where
@@ -119,8 +117,37 @@ text-high b l f = let h : b ≤ 255 = omega (arith, f .fits) in ⊎-elim
     (le-or-lt b 126)
 
 -- ---- the loop
-abbrev haltOf : State → ℕ → ℕ → Ran
-haltOf t at done = record { verdict = Carried; state = t; place = at; finding = Nothing; found = 0; ended = false; done = done }
+abbrev ranOf : State → ℕ → Finding → ℕ → Bool → ℕ → Ran
+ranOf t at f found ended done = record { verdict = Carried; state = t; place = at; finding = f; found = found; ended = ended; done = done }
+
+-- nothing was found and no page ended, as long as a run goes on
+pub record Quiet (f : Finding) (n : ℕ) (t : Bool) : Type 0 where
+  pub finding : f ≡ Nothing
+  pub found : n ≡ 0
+  pub ended : t ≡ false
+
+pub quiet-first : Quiet Nothing 0 false
+quiet-first = record { finding = refl; found = refl; ended = refl }
+
+-- an item behind which a run goes on
+pub quiet-goes : (y : Bool) (f : Finding) (n : ℕ) (t : Bool) → y ≡ (isClean f && not t) → y ≡ true → n ≡ 0 → Quiet f n t
+quiet-goes y f n t j k z =
+    let q = and-true (isClean f) (not t) (sym j ∙ k) in
+    record { finding = clean f (q .0); found = z; ended = off t (q .1) }
+  where
+    off : (b : Bool) → not b ≡ true → b ≡ false
+    off true e = absurd (false≢true e)
+    off false e = refl
+
+    clean : (x : Finding) → isClean x ≡ true → x ≡ Nothing
+    clean Nothing e = refl
+    clean EndsInside e = absurd (false≢true e)
+    clean CannotStand e = absurd (false≢true e)
+    clean NotCarried e = absurd (false≢true e)
+    clean NotAllowed e = absurd (false≢true e)
+    clean StackLimit e = absurd (false≢true e)
+    clean NotNow e = absurd (false≢true e)
+    clean DamagedRow e = absurd (false≢true e)
 
 -- no page was handed over: the page is the one that is being drawn
 page-none : (h : List (List ℕ)) (q : List ℕ) → isNil h ≡ true → pageOf h q ≡ q
@@ -136,23 +163,23 @@ pub record Going (g : Measure) (s : List ℕ) (allow : ℕ) (o : Outcome) (t : S
 
 module _ (g : Measure) (fit : Fits g) (s : List ℕ) (allow : ℕ) (o : Outcome) (t : State) (at done : ℕ) (p : List ℕ) (h : Going g s allow o t at done p) where
   -- the allowance is used up
-  pub turn-full : allow ≤ done → RunsOn o (haltOf t at done) p
+  pub turn-full : (f : Finding) (n : ℕ) (ended : Bool) → Quiet f n ended → allow ≤ done → RunsOn o (ranOf t at f n ended done) p
   unfolding runFrom
-  turn-full l =
+  turn-full f n ended q l =
       let z : allow - done ≡ 0 = omega arith in
       let e : halted t at done p ≡ o = rw z at (h .left) in
-      record { given = ap (λ (x : Outcome). x .ran) e; lent = ap (λ (x : Outcome). x .page) e }
+      rw (q .finding, q .found, q .ended) (record { given = ap (λ (x : Outcome). x .ran) e; lent = ap (λ (x : Outcome). x .page) e })
 
   module _ (l : done < allow) where
     one-more : allow - done ≡ suc (allow - (done + 1))
     one-more = omega arith
 
     -- there is no item to do
-    pub turn-over : (x : Bool) → x ≡ over t (drop at s) → x ≡ true → RunsOn o (haltOf t at done) p
+    pub turn-over : (y : Finding) (n : ℕ) (ended : Bool) → Quiet y n ended → (x : Bool) → x ≡ over t (drop at s) → x ≡ true → RunsOn o (ranOf t at y n ended done) p
     unfolding runFrom
-    turn-over x e f =
+    turn-over y n ended q x e f =
         let k : halted t at done p ≡ o = rw (← e, f) at (rw one-more at (h .left)) in
-        record { given = ap (λ (z : Outcome). z .ran) k; lent = ap (λ (z : Outcome). z .page) k }
+        rw (q .finding, q .found, q .ended) (record { given = ap (λ (z : Outcome). z .ran) k; lent = ap (λ (z : Outcome). z .page) k })
 
     module _ (x : Bool) (e : x ≡ over t (drop at s)) (f : x ≡ false) (r : Stepped) (after : List ℕ) (d : ItemDone g t p s at r after) where
       -- what is left to do behind it, and what the run comes to where it stops
@@ -199,8 +226,8 @@ module _ (g : Measure) (fit : Fits g) (s : List ℕ) (allow : ℕ) (o : Outcome)
 
 -- what a run gives that stops behind an item
 pub stop-is : (r : Stepped) (begins done found : ℕ) → found ≡ placeOf (r .finding) begins
-    → record { verdict = Carried; state = r .state; place = r .next; finding = r .finding; found = found; ended = r .ended; done = done } ≡ stopOf r begins done
-stop-is r begins done found e = ap (λ (n : ℕ). record { verdict = Carried; state = r .state; place = r .next; finding = r .finding; found = n; ended = r .ended; done = done }) e
+    → ranOf (r .state) (r .next) (r .finding) found (r .ended) done ≡ stopOf r begins done
+stop-is r begins done found e = ap (λ (n : ℕ). ranOf (r .state) (r .next) (r .finding) n (r .ended) done) e
 
 -- a text byte is no ESC
 text-plain : (b : ℕ) → isText b ≡ true → eqb b 27 ≡ false

@@ -8,13 +8,13 @@ use lib.ListN.{length, drop, getD}
 use Rattle.common.specs.Lists.{isNil}
 use Rattle.rules.specs.declared.Measure.{Measure}
 use Rattle.rules.specs.declared.Sequence.{Sequence}
+use Rattle.rules.specs.declared.Finding.{Finding}
 use Rattle.rules.specs.declared.State.{State}
 use Rattle.rules.specs.declared.Ran.{Ran}
 use Rattle.rules.specs.Items.{isText}
 use Rattle.rules.specs.Acts.{World, world, showAll, Step, step, isClosed}
 use Rattle.rules.specs.declared.Verdict.the-variants.{Carried}
 use Rattle.rules.specs.Run.{Outcome, pageOf, placeOf}
-use Rattle.run.specs.declared.Stepped.{Stepped}
 
 -- whether the item at a place is space or text: no sequence is open there
 abbrev pub textNext : List ℕ → ℕ → Sequence → Bool
@@ -23,6 +23,13 @@ textNext s at q = ltb at (length s) && isClosed q && isText (getD s at 0)
 -- the page and the pages handed over behind the acts of a step
 abbrev pub shownBy : Measure → Step → State → List ℕ → World
 shownBy g d t p = showAll g (d .done .acts) (world (t .core) p [])
+
+-- what one item comes to besides the page: the state and the place behind it, its finding, and whether it ended the page
+pub record Stepped : Type 0 where
+  pub state : State
+  pub next : ℕ
+  pub finding : Finding
+  pub ended : Bool
 
 -- the item at the place `at` of the stream s, done in the state t on the page p, as the rules do it
 pub record ItemDone (g : Measure) (t : State) (p s : List ℕ) (at : ℕ) (r : Stepped) (after : List ℕ) : Type 0 where

@@ -4,18 +4,18 @@ ghost use mathlib.Core.Path.{_≡_};
 ghost use mathlib.Core.List.{List};
 ghost use mathlib.Core.Bool.{true, false, cond, not, _&&_, _||_};
 ghost use Prim.Native.Nat.{ℕ, _+_, _*_, _≤_};
-ghost use lib.Dec.{eqb, ltb};
-ghost use lib.ListN.{length, drop, getD, replicate};
+ghost use lib.Dec.{eqb};
+ghost use lib.ListN.{length, drop, replicate};
 ghost use Rattle.common.specs.Lists.{isNil};
 ghost use Rattle.rules.specs.declared.Refusal.{Refusal};
-ghost use Rattle.rules.specs.Measure.{pageBytes, measureOf};
+ghost use Rattle.rules.specs.Measure.{pageBytes};
 ghost use Rattle.rules.specs.Findings.{isClean};
 ghost use Rattle.rules.specs.Items.{isText};
 ghost use Rattle.rules.specs.Acts.{isClosed, over};
-ghost use Rattle.rules.specs.Run.{placeOf, runFrom, readied, run, refused};
+ghost use Rattle.rules.specs.Run.{placeOf, runFrom, run, refused};
 ghost use Rattle.theorems.specs.Facts.{Fits, Shaped, SoundState};
 ghost use Rattle.theorems.specs.Statements.{RunPromise};
-ghost use Rattle.run.specs.Turns.{ItemDone, textNext, stopOf, RunsOn};
+ghost use Rattle.run.specs.Turns.{textNext, RunsOn};
 use dots::clear;
 use items::do_item;
 use items::is_clean;
@@ -32,14 +32,6 @@ use state::measure_of;
 use state::sound;
 use text::marked;
 use text::typed_at;
-
-// What one item comes to besides the page: the state and the place behind it, its finding, and whether it ended the page.
-struct Stepped {
-    state: State,
-    next: usize,
-    finding: Finding,
-    ended: bool,
-}
 
 // Whether no sequence is open.
 fn is_closed(q: Sequence) -> bool
@@ -75,34 +67,6 @@ fn text_next(s: &[u8], at: usize, q: Sequence) -> bool
     if is_closed(q) { is_text(s[at]) } else { false }
 }
 
-// The item at a place of the stream, read and done.
-fn next_item(page: &mut [u8], g: Measure, s: &[u8], at: usize, t: State) -> Stepped
-    requires { ⌜ (at ≤ length (now s)) × Fits g × SoundState g t ⌝ }
-    ensures { λ r. ⌜ ItemDone g t (now (page .entry)) (now (s .entry)) at r (now (page .exit)) ⌝ }
-{
-    let sequence = t.sequence;
-    let r = read_item(s, at, sequence);
-    let item = r.item;
-    let core = t.core;
-    let beside = t.beside;
-    let a = do_item(page, g, s, item, core, beside);
-    let core = a.core;
-    let beside = a.beside;
-    let finding = a.finding;
-    let sequence = r.sequence;
-    let state = State {
-        core,
-        beside,
-        sequence,
-    };
-    Stepped {
-        state,
-        next: r.next,
-        finding,
-        ended: a.ended,
-    }
-}
-
 // Whether a run goes on behind an item: it had no finding and ended no page.
 fn goes_on(f: Finding, ended: bool) -> bool
     ensures { λ r. ⌜ r ≡ (isClean f && not ended) ⌝ }
@@ -117,25 +81,8 @@ fn place_of(f: Finding, at: usize) -> usize
     if is_clean(f) { 0 } else { at }
 }
 
-// A run that stops behind an item.
-fn stopped(r: Stepped, begins: usize, done: usize) -> Ran
-    ensures { λ o. ⌜ o ≡ stopOf r begins done ⌝ }
-{
-    let state = r.state;
-    let finding = r.finding;
-    let found = place_of(finding, begins);
-    Ran {
-        verdict: Verdict::Carried,
-        state,
-        place: r.next,
-        finding,
-        found,
-        ended: r.ended,
-        done,
-    }
-}
-
 // The items of a run. Text is done here, byte by byte: only the cursor moves, and the page is used.
+// The core is large: it is kept in one place and changed there, and a state is made of it only at the end.
 fn run_items(page: &mut [u8], g: Measure, s: &[u8], t: State, place: usize, allowance: usize) -> Ran
     requires { ⌜ (place ≤ length (now s)) × Fits g × Shaped (t .core) × SoundState g t ⌝ }
     ensures { λ r. ⌜ RunsOn (runFrom g allowance 0 place t (now (page .entry)) (drop place (now (s .entry)))) r (now (page .exit)) ⌝ }
@@ -145,6 +92,9 @@ fn run_items(page: &mut [u8], g: Measure, s: &[u8], t: State, place: usize, allo
     let mut sequence = t.sequence;
     let mut at = place;
     let mut done: usize = 0;
+    let mut finding = Finding::Nothing;
+    let mut found: usize = 0;
+    let mut ended = false;
     while done < allowance {
         if text_next(s, at, sequence) {
             let from = core.at;
@@ -160,23 +110,21 @@ fn run_items(page: &mut [u8], g: Measure, s: &[u8], t: State, place: usize, allo
         if is_over(s, at, sequence) {
             break;
         }
-        let state = State {
-            core,
-            beside,
-            sequence,
-        };
-        let r = next_item(page, g, s, at, state);
-        let finding = r.finding;
-        let ended = r.ended;
-        if !goes_on(finding, ended) {
-            return stopped(r, at, done + 1);
-        }
-        let behind = r.state;
-        core = behind.core;
-        beside = behind.beside;
-        sequence = behind.sequence;
+        let begins = at;
+        let r = read_item(s, at, sequence);
+        let item = r.item;
+        let a = do_item(page, g, s, item, core, beside);
+        core = a.core;
+        beside = a.beside;
+        sequence = r.sequence;
         at = r.next;
         done += 1;
+        finding = a.finding;
+        ended = a.ended;
+        if !goes_on(finding, ended) {
+            found = place_of(finding, begins);
+            break;
+        }
     }
     let state = State {
         core,
@@ -187,9 +135,9 @@ fn run_items(page: &mut [u8], g: Measure, s: &[u8], t: State, place: usize, allo
         verdict: Verdict::Carried,
         state,
         place: at,
-        finding: Finding::Nothing,
-        found: 0,
-        ended: false,
+        finding,
+        found,
+        ended,
         done,
     }
 }

@@ -1,32 +1,24 @@
-use Rattle.common.proofs.Choices.{choices, compound}
-use native.Mathlib.Omega.{arith}
+-- `items::code_of` meets its contract. Assumes nothing.
+use Rattle.common.proofs.Choices.{choices}
 use borrow.Author.Needs.{needs}
 use Rattle.items.proofs.code_of.Statement.{statement}
 use Rattle.items.proofs.code_of.Tie as tie
-use Rattle.items.proofs.code_of.Reads as reads
-use Rattle.items.proofs.code_of.Lts as lts
 
--- src/lib.rt:79:1
 returns : tie.Need-returns
 returns c = search (choices, needs) depth 12
 
--- src/lib.rt:79:1
 returns-2 : tie.Need-returns-2
 returns-2 c = search (choices, needs) depth 12
 
--- src/lib.rt:79:1
 returns-3 : tie.Need-returns-3
 returns-3 c = search (choices, needs) depth 12
 
--- src/lib.rt:79:1
 returns-4 : tie.Need-returns-4
 returns-4 c = search (choices, needs) depth 12
 
--- src/lib.rt:79:1
 returns-5 : tie.Need-returns-5
 returns-5 c = search (choices, needs) depth 12
 
--- src/lib.rt:79:1
 returns-6 : tie.Need-returns-6
 returns-6 c = search (choices, needs) depth 12
 

@@ -1,77 +1,56 @@
+-- `items::do_bytes` meets its contract. Assumes nothing.
 use Rattle.rules.specs.Acts.{mean}
 use Rattle.items.proofs.Deeds.{bytes-told, bytes-nothing}
-use native.Mathlib.Omega.{arith}
 use borrow.Author.Needs.{needs}
 use Rattle.items.proofs.do_bytes.Statement.{statement}
 use Rattle.items.proofs.do_bytes.Tie as tie
-use Rattle.items.proofs.do_bytes.Reads as reads
-use Rattle.items.proofs.do_bytes.Lts as lts
-use Rattle.items.proofs.do_code_byte.Reads as do-code-byte-reads
-use Rattle.items.proofs.do_escape_byte.Reads as do-escape-byte-reads
-use Rattle.items.proofs.do_text.Reads as do-text-reads
-use Rattle.items.proofs.nothing_done.Reads as nothing-done-reads
 
--- src/lib.rt:329:20
 enum-known-i : tie.Need-enum-known-i
 enum-known-i c = search needs
 
--- src/lib.rt:329:26
 do-text-requires : tie.Need-do-text-requires
 do-text-requires c κs = search needs
 
--- src/lib.rt:330:20
 enum-known-i-2 : tie.Need-enum-known-i-2
 enum-known-i-2 c = search needs
 
--- src/lib.rt:330:26
 do-code-byte-requires : tie.Need-do-code-byte-requires
 do-code-byte-requires c κs = search needs
 
--- src/lib.rt:331:19
 enum-known-i-3 : tie.Need-enum-known-i-3
 enum-known-i-3 c = search needs
 
--- src/lib.rt:331:25
 do-escape-byte-requires : tie.Need-do-escape-byte-requires
 do-escape-byte-requires c κs = search needs
 
--- src/lib.rt:336:27
 enum-told : tie.Need-enum-told
 enum-told c = search needs
 
--- src/lib.rt:336:14
 nothing-done-requires : tie.Need-nothing-done-requires
 nothing-done-requires c κs = search needs
 
--- src/lib.rt:337:22
 enum-known-i-4 : tie.Need-enum-known-i-4
 enum-known-i-4 c = search needs
 
--- src/lib.rt:337:28
 nothing-done-requires-2 : tie.Need-nothing-done-requires-2
 nothing-done-requires-2 c κs = search needs
 
--- src/lib.rt:324:1
 returns : tie.Need-returns
 unfolding mean
 returns c = search (bytes-told, bytes-nothing, needs)
 
--- src/lib.rt:324:1
 returns-2 : tie.Need-returns-2
 unfolding mean
 returns-2 c = search (bytes-told, bytes-nothing, needs)
 
--- src/lib.rt:324:1
 returns-3 : tie.Need-returns-3
 unfolding mean
 returns-3 c = search (bytes-told, bytes-nothing, needs)
 
--- src/lib.rt:324:1
 returns-4 : tie.Need-returns-4
 unfolding mean
 returns-4 c = search (bytes-told, bytes-nothing, needs)
 
--- src/lib.rt:324:1
 returns-5 : tie.Need-returns-5
 unfolding mean
 returns-5 c = search (bytes-told, bytes-nothing, needs)

@@ -1,24 +1,18 @@
-use Rattle.common.proofs.Choices.{choices, compound}
-use native.Mathlib.Omega.{arith}
+-- `items::escape_of` meets its contract. Assumes nothing.
+use Rattle.common.proofs.Choices.{choices}
 use borrow.Author.Needs.{needs}
 use Rattle.items.proofs.escape_of.Statement.{statement}
 use Rattle.items.proofs.escape_of.Tie as tie
-use Rattle.items.proofs.escape_of.Reads as reads
-use Rattle.items.proofs.escape_of.Lts as lts
 
--- src/lib.rt:120:1
 returns : tie.Need-returns
 returns c = search (choices, needs) depth 12
 
--- src/lib.rt:120:1
 returns-2 : tie.Need-returns-2
 returns-2 c = search (choices, needs) depth 12
 
--- src/lib.rt:120:1
 returns-3 : tie.Need-returns-3
 returns-3 c = search (choices, needs) depth 12
 
--- src/lib.rt:120:1
 returns-4 : tie.Need-returns-4
 returns-4 c = search (choices, needs) depth 12
 

@@ -1,16 +1,12 @@
+-- `run::is_text` meets its contract. Assumes nothing.
 use Rattle.run.proofs.Turns.{text-low, text-high}
-use native.Mathlib.Omega.{arith}
 use borrow.Author.Needs.{needs}
 use Rattle.run.proofs.is_text.Statement.{statement}
 use Rattle.run.proofs.is_text.Tie as tie
-use Rattle.run.proofs.is_text.Reads as reads
-use Rattle.run.proofs.is_text.Lts as lts
 
--- src/lib.rt:57:1
 returns : tie.Need-returns
 returns c = search (text-low, needs)
 
--- src/lib.rt:57:1
 returns-2 : tie.Need-returns-2
 returns-2 c = search (text-high, needs)
 
