@@ -1,3 +1,4 @@
 -- The laws of this crate.
 pub mod Products
 pub mod Outcomes
+pub mod Movings

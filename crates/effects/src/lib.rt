@@ -14,15 +14,19 @@ ghost use Rattle.rules.specs.Number.{sizeOf, wholePart};
 ghost use Rattle.rules.specs.States.{withLeft, withRight, withVmi, withStarted, withMargin, withLayout, withRaster, withSeed, toX, toY, zeroSeed, firstLineAt};
 ghost use Rattle.rules.specs.Effects.{target, across, down, newLeft, newRight, newTop, lineRates, displacement, pushed, popped, rowHeight};
 ghost use Rattle.effects.specs.Outcome.{Outcome, CarriedOut};
+ghost use Rattle.effects.specs.Positions.{acrossSpot, downSpot, Moved};
 use rules::Core;
 use rules::Finding;
 use rules::Kind;
+use rules::Layout;
 use rules::Measure;
 use rules::Spot;
 use rules::Value;
 use state::first_line_at;
 use state::in_height;
 use state::inch_over;
+use state::into_height;
+use state::into_width;
 use state::is_resolution;
 use state::least;
 use state::less;
@@ -38,6 +42,12 @@ use values::whole_part;
 pub struct Carried {
     pub finding: Finding,
     pub core: Core,
+}
+
+// Where a position takes the cursor, with nothing else changed; any other command is Other.
+pub enum Moving {
+    To(Spot),
+    Other,
 }
 
 // A displacement: size times unit, cut to whole units.
@@ -477,6 +487,40 @@ fn skip_rows(g: Measure, n: u32, c: Core) -> Carried
     Carried {
         finding: Finding::NotNow,
         core: c,
+    }
+}
+
+// The cursor behind &a#C, &a#H, *p#X.
+fn across_at(g: Measure, unit: u32, v: Value, at: Spot) -> Spot
+    requires { ⌜ (g .wide ≤ 600) × (g .high ≤ 6800) ⌝ }
+    ensures { λ r. ⌜ r ≡ acrossSpot g unit v at ⌝ }
+{
+    let x = into_width(g, target(0, at.x, unit, v));
+    Spot { x, y: at.y }
+}
+
+// The cursor behind &a#V, *p#Y, &a#R.
+fn down_at(g: Measure, base: u64, unit: u32, v: Value, at: Spot) -> Spot
+    requires { ⌜ (g .wide ≤ 600) × (g .high ≤ 6800) × (base < 8589934592) ⌝ }
+    ensures { λ r. ⌜ r ≡ downSpot g base unit v at ⌝ }
+{
+    let y = into_height(g, target(base, at.y, unit, v));
+    Spot { x: at.x, y }
+}
+
+// Where a position takes the cursor: no core is handed over, which is large. The value is here as it is used.
+pub fn positioned(g: Measure, k: Kind, v: Value, at: Spot, l: Layout) -> Moving
+    requires { ⌜ (g .wide ≤ 600) × (g .high ≤ 6800) ⌝ }
+    ensures { λ r. ⌜ Moved g k v at l r ⌝ }
+{
+    match k {
+        Kind::Column => Moving::To(across_at(g, l.hmi, v, at)),
+        Kind::DecipointAcross => Moving::To(across_at(g, 10, v, at)),
+        Kind::DotAcross => Moving::To(across_at(g, 24, v, at)),
+        Kind::DecipointDown => Moving::To(down_at(g, l.top as u64, 10, v, at)),
+        Kind::DotDown => Moving::To(down_at(g, l.top as u64, 24, v, at)),
+        Kind::Line => Moving::To(down_at(g, first_line_at(l), l.vmi, v, at)),
+        _ => Moving::Other,
     }
 }
 

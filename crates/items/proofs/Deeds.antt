@@ -1,4 +1,5 @@
 -- What the acts of an item do, act by act: to the core, to the method, to the page. Assumes nothing.
+use Prim.{tt}
 use mathlib.Core.Path.{_≡_, refl, sym, ap, _∙_}
 use mathlib.Core.Bool.{Bool, true, false, cond, not}
 use mathlib.Core.List.{List, [], _∷_, _++_}
@@ -21,11 +22,13 @@ use Rattle.rules.specs.declared.Command.{Command}
 use Rattle.rules.specs.declared.Command.the-variants.{Valued, Method, Print, Row, Unknown}
 use Rattle.rules.specs.declared.Finding.{Finding}
 use Rattle.rules.specs.declared.Finding.the-variants.{Nothing, NotCarried, NotAllowed, EndsInside, CannotStand, StackLimit, NotNow, DamagedRow}
+use Rattle.rules.specs.declared.Spot.{Spot}
+use Rattle.rules.specs.declared.Layout.{Layout}
 use Rattle.rules.specs.declared.Core.{Core}
 use Rattle.rules.specs.declared.Beside.{Beside}
 use Rattle.rules.specs.Measure.{dotUnit, rowHolds}
 use Rattle.rules.specs.Findings.{isClean}
-use Rattle.rules.specs.States.{besideOf, withSeed}
+use Rattle.rules.specs.States.{besideOf, withAt, withSeed}
 use Rattle.rules.specs.Number.{wholePart}
 use Rattle.rules.specs.Commands.{whole, useOf, usedValue, isNegative}
 use Rattle.rules.specs.Effects.{effect, barred, startedAt}
@@ -37,6 +40,9 @@ use Rattle.rules.specs.Acts.{Act, type, control, escape, order, print, draw, sh
 use Rattle.rules.specs.Items as rule
 use Rattle.rows.specs.Decoding.{Decoded}
 use Rattle.raster.specs.Cursor.{movedOn}
+use Rattle.effects.specs.declared.Moving.{Moving}
+use Rattle.effects.specs.declared.Moving.the-variants.{To, Other}
+use Rattle.effects.specs.Positions.{Moved}
 use Rattle.raster.proofs.Drawing.{drawn-parts}
 use Rattle.theorems.proofs.Lengths.{decoded-length}
 use Rattle.theorems.proofs.Soundness.{drop-zeros}
@@ -52,7 +58,7 @@ use Rattle.items.specs.declared.Coding.{Coding}
 use Rattle.items.specs.declared.Coding.the-variants as coding
 use Rattle.items.specs.declared.Escaping.{Escaping}
 use Rattle.items.specs.declared.Escaping.the-variants as escaping
-use Rattle.items.specs.Acted.{actedOf, acted, pageAfter, ActedOn, ActedFor, codeOf, escapeOf, meanBytes}
+use Rattle.items.specs.Acted.{actedOf, acted, pageAfter, ActedOn, ActedFor, ItemMoved, codeOf, escapeOf, meanBytes}
 
 module _ (g : Measure) where
   -- nothing is done
@@ -229,6 +235,20 @@ pub item-command : (g : Measure) (s page : List ℕ) (i : Item) (k : Command) (f
     → ActedOn g (meanCommand g k (take (to - from) (drop from s)) c m) c page r after → ActedOn g (mean g (itemIn s i) c m) c page r after
 unfolding mean
 item-command g s page i k from to c m r after e h = rw e h
+
+-- a position: the cursor moves, and nothing else is done
+pub item-moved : (g : Measure) (i : Item) (j : Command) (from to : ℕ) (k : Kind) (v u : Value) (at : Spot) (l : Layout) (r : Moving) → i ≡ found.Command j from to → j ≡ Valued k v → u ≡ usedValue (useOf k) v
+    → Moved g k u at l r → ItemMoved g i at l r
+item-moved g i j from to k v u at l r e f x = go r
+  where
+    go : (y : Moving) → Moved g k u at l y → ItemMoved g i at l y
+    go (To q) h = λ s c m a b page.
+        let z = h c a b in
+        let d : withAt q c ≡ cond (isClean (barred g k u c)) (effect g k u c) c = rw (z .free) (sym (z .there)) in
+        let n = take (to - from) (drop from s) in
+        let w = valued-done g k v u c (withAt q c) m m Nothing false (sym (z .signed v)) refl x (sym (z .free)) d (λ o. sym (z .aside o m)) n page in
+        item-command g s page i j from to c m (actedOf (withAt q c) m Nothing false) page e (rw f w)
+    go Other h = tt
 
 -- a list of zeros
 zeros : (l : List ℕ) → allZero l ≡ true → l ≡ replicate (length l) 0

@@ -14,12 +14,14 @@ ghost use Rattle.rules.specs.Dots.{painted};
 ghost use Rattle.rules.specs.Items.{text};
 ghost use Rattle.rules.specs.Acts.{gate, control, escape, order, besideAfter, meanCode, meanTwo, meanCommand, mean};
 ghost use Rattle.reader.specs.Items.{itemIn, fromOf, toOf};
-ghost use Rattle.items.specs.Acted.{actedOf, ActedOn, ActedFor, codeOf, escapeOf, meanBytes};
+ghost use Rattle.items.specs.Acted.{actedOf, ActedOn, ActedFor, ItemMoved, codeOf, escapeOf, meanBytes};
 use codes::code_ends_page;
 use codes::coded;
 use codes::escape_ends_page;
 use codes::escaped;
+use effects::Moving;
 use effects::carry_out;
+use effects::positioned;
 use raster::begun;
 use raster::beside_escape;
 use raster::beside_order;
@@ -32,8 +34,10 @@ use rules::Core;
 use rules::Escape;
 use rules::Finding;
 use rules::Kind;
+use rules::Layout;
 use rules::Measure;
 use rules::Raster;
+use rules::Spot;
 use rules::Value;
 use text::typed;
 use text::typed_all;
@@ -348,4 +352,23 @@ pub fn do_item(page: &mut [u8], g: Measure, s: &[u8], i: Item, c: Core, m: Besid
         return do_bytes(g, i, c, m);
     };
     do_command(page, g, command, &s[from..to], c, m)
+}
+
+// Where an item takes the cursor, with nothing else changed: a position. No core is handed over, which is large.
+pub fn move_item(g: Measure, i: Item, at: Spot, l: Layout) -> Moving
+    requires { ⌜ (g .wide ≤ 600) × (g .high ≤ 6800) ⌝ }
+    ensures { λ r. ⌜ ItemMoved g i at l r ⌝ }
+{
+    let Item::Command {
+        command,
+        from: _,
+        to: _,
+    } = i
+    else {
+        return Moving::Other;
+    };
+    let Command::Valued(k, v) = command else {
+        return Moving::Other;
+    };
+    positioned(g, k, used_value(k, v), at, l)
 }

@@ -39,7 +39,9 @@ use Rattle.reader.specs.Items.{readAt, itemIn, ItemAt}
 use Rattle.reader.proofs.Places.{read-left, read-back}
 use Rattle.text.specs.Cursor.{typedSpot}
 use Rattle.items.specs.declared.Acted.{Acted}
-use Rattle.items.specs.Acted.{actedOf, acted, pageAfter, ActedOn}
+use Rattle.effects.specs.declared.Moving.{Moving}
+use Rattle.effects.specs.declared.Moving.the-variants.{To}
+use Rattle.items.specs.Acted.{actedOf, acted, pageAfter, ActedOn, ItemMoved}
 use Rattle.items.proofs.Deeds.{text-done}
 use Rattle.run.specs.Turns.{Stepped, textNext, shownBy, ItemDone, stopOf, RunsOn}
 use Rattle.theorems.specs.Facts.{Fits, Shaped, SoundState}
@@ -281,6 +283,14 @@ module _ (g : Measure) (fit : Fits g) (s : List ℕ) (allow : ℕ) (o : Outcome)
           → ItemDone g (stateOf c m Closed) p s at (steppedOf (stateOf (withUsed u (withAt to c)) m Closed) (at + 1) Nothing false) p → Going g s allow o (stateOf (withUsed u (withAt to c)) m r) (at + 1) (done + 1) p
       go Closed e h v i = turn-goes g fit s allow o (stateOf c m Closed) at done p h l false v refl (steppedOf (stateOf (withUsed u (withAt to c)) m Closed) (at + 1) Nothing false) p i true refl refl
       go (Open first group) e h v i = absurd (false≢true (ap isClosed e))
+
+  -- a position: the run goes on behind it
+  pub turn-moves : (x : Bool) (r : ReadItem) (v : Moving) (to : Spot) → done < allow → x ≡ over (stateOf c m q) (drop at s) → x ≡ false → ItemAt s at q r → ItemMoved g (r .item) (c .at) (c .layout) v → v ≡ To to
+      → Going g s allow o (stateOf (withAt to c) m (r .sequence)) (r .next) (done + 1) p
+  turn-moves x r v to l e f k j z =
+      let w : ItemMoved g (r .item) (c .at) (c .layout) (To to) = rw z at j in
+      let d = item-done g (stateOf c m q) p s at (actedOf (withAt to c) m Nothing false) p r (h .inside) k (w s c m refl refl p) in
+      turn-goes g fit s allow o (stateOf c m q) at done p h l x e f (steppedOf (stateOf (withAt to c) m (r .sequence)) (r .next) Nothing false) p d true refl refl
 
 -- a run that has not begun
 pub going-first : (g : Measure) (s : List ℕ) (allow place : ℕ) (t : State) (p : List ℕ) → place ≤ length s → Shaped (t .core) → SoundState g t

@@ -17,8 +17,10 @@ ghost use Rattle.theorems.specs.Facts.{Fits, Shaped, SoundState};
 ghost use Rattle.theorems.specs.Statements.{RunPromise};
 ghost use Rattle.run.specs.Turns.{textNext, RunsOn};
 use dots::clear;
+use effects::Moving;
 use items::do_item;
 use items::is_clean;
+use items::move_item;
 use reader::read_item;
 use rules::Finding;
 use rules::Measure;
@@ -81,7 +83,7 @@ fn place_of(f: Finding, at: usize) -> usize
     if is_clean(f) { 0 } else { at }
 }
 
-// The items of a run. Text is done here, byte by byte: only the cursor moves, and the page is used.
+// The items of a run. Text is done here, byte by byte: only the cursor moves, and the page is used. So are positions.
 // The core is large: it is kept in one place and changed there, and a state is made of it only at the end.
 fn run_items(page: &mut [u8], g: Measure, s: &[u8], t: State, place: usize, allowance: usize) -> Ran
     requires { ⌜ (place ≤ length (now s)) × Fits g × Shaped (t .core) × SoundState g t ⌝ }
@@ -113,6 +115,16 @@ fn run_items(page: &mut [u8], g: Measure, s: &[u8], t: State, place: usize, allo
         let begins = at;
         let r = read_item(s, at, sequence);
         let item = r.item;
+        let here = core.at;
+        let around = core.layout;
+        let moving = move_item(g, item, here, around);
+        if let Moving::To(there) = moving {
+            core.at = there;
+            sequence = r.sequence;
+            at = r.next;
+            done += 1;
+            continue;
+        }
         let a = do_item(page, g, s, item, core, beside);
         core = a.core;
         beside = a.beside;

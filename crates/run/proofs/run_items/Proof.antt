@@ -6,7 +6,7 @@ use lib.ListN.{length, drop}
 use Rattle.rules.specs.States.{stateOf}
 use Rattle.rules.specs.Run.{runFrom}
 use Rattle.theorems.specs.Facts.{Fits}
-use Rattle.run.proofs.Turns.{Going, Quiet, quiet-first, quiet-goes, text-told, item-done, stop-is, turn-full, turn-over, turn-stops, turn-goes, turn-text, going-first}
+use Rattle.run.proofs.Turns.{Going, Quiet, quiet-first, quiet-goes, text-told, item-done, stop-is, turn-full, turn-over, turn-stops, turn-goes, turn-text, turn-moves, going-first}
 use native.Mathlib.Omega.{arith}
 use borrow.Author.Needs.{needs}
 use Rattle.run.proofs.run_items.Statement.{statement}
@@ -53,11 +53,29 @@ is-over-requires c κs = search needs
 read-item-requires : tie.Need-read-item-requires Inv-loop μ-loop
 read-item-requires c κs = search needs
 
-do-item-requires : tie.Need-do-item-requires Inv-loop μ-loop
-do-item-requires c κs = search needs
+move-item-requires : tie.Need-move-item-requires Inv-loop μ-loop
+move-item-requires c κs = search needs
+
+enum-known-moving : tie.Need-enum-known-moving Inv-loop μ-loop
+enum-known-moving c = search needs
 
 add-done-2 : tie.Need-add-done-2 Inv-loop μ-loop
 add-done-2 c = record { fits = omega (arith, c .before .before .before .before .before .before .before .before .before .before .before .loop-test .taken, c .before .before .before .before .before .before .before .before .before .before .before .before .before .before .before .before .before .fits .allowance .fits) }
+
+loop-less-2 : tie.Need-loop-less-2 Inv-loop μ-loop
+loop-less-2 c = omega (arith, c .before .before .before .before .before .before .before .before .before .before .before .loop-test .taken)
+
+loop-again-2 : tie.Need-loop-again-2 Inv-loop μ-loop
+loop-again-2 c = (c .before .before .before .before .before .before .before .before .before .before .before .before .loop .inv .0, c .before .before .before .before .before .before .before .before .before .before .before .before .loop .inv .1, turn-moves _ (c .before .before .before .before .before .before .before .before .before .before .before .before .loop .inv .0) _ _ _ _ _ _ _ _ _ (c .before .before .before .before .before .before .before .before .before .before .before .before .loop .inv .2) _ _ _ _ (c .before .before .before .before .before .before .before .before .before .before .before .loop-test .taken) (c .before .before .before .before .before .before .before .before .is-over .ensures) (c .before .before .before .before .before .before .before .if2 .left) (c .before .before .before .before .before .before .read-item .ensures) (c .before .before .before .move-item .ensures) (c .before .moving .given .1), c .before .before .before .before .before .before .before .before .before .before .before .before .loop .inv .3)
+
+enum-told : tie.Need-enum-told Inv-loop μ-loop
+enum-told c = search needs
+
+do-item-requires : tie.Need-do-item-requires Inv-loop μ-loop
+do-item-requires c κs = ((c .before .before .before .before .before .before .before .before .before .before .before .before .loop .inv .0 .wide, c .before .before .before .before .before .before .before .before .before .before .before .before .loop .inv .0 .high, c .before .before .before .before .before .before .before .before .before .before .before .before .loop .inv .2 .sound .core .seed), (c .before .before .before .before .before .before .read-item .ensures .ordered, omega (arith, c .before .before .before .before .before .before .read-item .ensures .ended, c .before .before .before .before .before .before .read-item .ensures .inside, c .before .before .before .before .before .before .before .before .before .before .before .before .loop .inv .2 .inside)))
+
+add-done-3 : tie.Need-add-done-3 Inv-loop μ-loop
+add-done-3 c = record { fits = omega (arith, c .before .before .before .before .before .before .before .before .before .before .before .before .before .before .before .before .loop-test .taken, c .before .before .before .before .before .before .before .before .before .before .before .before .before .before .before .before .before .before .before .before .before .before .fits .allowance .fits) }
 
 goes-on-requires : tie.Need-goes-on-requires Inv-loop μ-loop
 goes-on-requires c κs = search needs
@@ -65,11 +83,11 @@ goes-on-requires c κs = search needs
 place-of-requires : tie.Need-place-of-requires Inv-loop μ-loop
 place-of-requires c κs = search needs
 
-loop-less-2 : tie.Need-loop-less-2 Inv-loop μ-loop
-loop-less-2 c = search needs
+loop-less-3 : tie.Need-loop-less-3 Inv-loop μ-loop
+loop-less-3 c = omega (arith, c .before .before .before .before .before .before .before .before .before .before .before .before .before .before .before .before .before .before .loop-test .taken)
 
-loop-again-2 : tie.Need-loop-again-2 Inv-loop μ-loop
-loop-again-2 c = (c .before .before .before .before .before .before .before .before .before .before .before .before .before .before .loop .inv .0, c .before .before .before .before .before .page .given ∙ c .before .before .before .before .before .before .before .before .before .before .before .before .before .before .loop .inv .1, turn-goes _ (c .before .before .before .before .before .before .before .before .before .before .before .before .before .before .loop .inv .0) _ _ _ _ _ _ _ (c .before .before .before .before .before .before .before .before .before .before .before .before .before .before .loop .inv .2) (c .before .before .before .before .before .before .before .before .before .before .before .before .before .loop-test .taken) _ (c .before .before .before .before .before .before .before .before .before .before .is-over .ensures) (c .before .before .before .before .before .before .before .before .before .if2 .left) _ _ (item-done _ _ _ _ _ _ _ _ (c .before .before .before .before .before .before .before .before .before .before .before .before .before .before .loop .inv .2 .inside) (c .before .before .before .before .before .before .before .before .read-item .ensures) (c .before .before .before .before .before .before .do-item .ensures)) _ (c .before .goes-on .ensures) (not-false _ (c .if3 .left)), quiet-goes _ _ _ _ (c .before .goes-on .ensures) (not-false _ (c .if3 .left)) (c .before .before .before .before .before .before .before .before .before .before .before .before .before .before .loop .inv .3 .found))
+loop-again-3 : tie.Need-loop-again-3 Inv-loop μ-loop
+loop-again-3 c = (c .before .before .before .before .before .before .before .before .before .before .before .before .before .before .before .before .before .before .before .loop .inv .0, c .before .before .before .before .before .page .given ∙ c .before .before .before .before .before .before .before .before .before .before .before .before .before .before .before .before .before .before .before .loop .inv .1, turn-goes _ (c .before .before .before .before .before .before .before .before .before .before .before .before .before .before .before .before .before .before .before .loop .inv .0) _ _ _ _ _ _ _ (c .before .before .before .before .before .before .before .before .before .before .before .before .before .before .before .before .before .before .before .loop .inv .2) (c .before .before .before .before .before .before .before .before .before .before .before .before .before .before .before .before .before .before .loop-test .taken) _ (c .before .before .before .before .before .before .before .before .before .before .before .before .before .before .before .is-over .ensures) (c .before .before .before .before .before .before .before .before .before .before .before .before .before .before .if2 .left) _ _ (item-done _ _ _ _ _ _ _ _ (c .before .before .before .before .before .before .before .before .before .before .before .before .before .before .before .before .before .before .before .loop .inv .2 .inside) (c .before .before .before .before .before .before .before .before .before .before .before .before .before .read-item .ensures) (c .before .before .before .before .before .before .do-item .ensures)) _ (c .before .goes-on .ensures) (not-false _ (c .if3 .left)), quiet-goes _ _ _ _ (c .before .goes-on .ensures) (not-false _ (c .if3 .left)) (c .before .before .before .before .before .before .before .before .before .before .before .before .before .before .before .before .before .before .before .loop .inv .3 .found))
 
 same-length : tie.Need-same-length Inv-loop μ-loop
 same-length c = search needs
@@ -84,10 +102,10 @@ returns-2 : tie.Need-returns-2 Inv-loop μ-loop
 returns-2 c = turn-over _ (c .before .before .before .before .before .loop .inv .0) _ _ _ _ _ _ _ (c .before .before .before .before .before .loop .inv .2) (c .before .before .before .before .loop-test .taken) _ _ _ (c .before .before .before .before .before .loop .inv .3) _ (c .before .is-over .ensures) (c .if2 .taken)
 
 same-length-3 : tie.Need-same-length-3 Inv-loop μ-loop
-same-length-3 c = c .before .before .before .before .before .before .page .given ∙ c .before .before .before .before .before .before .before .before .before .before .before .before .before .before .before .loop .inv .1
+same-length-3 c = c .before .before .before .before .before .before .page .given ∙ c .before .before .before .before .before .before .before .before .before .before .before .before .before .before .before .before .before .before .before .before .loop .inv .1
 
 returns-3 : tie.Need-returns-3 Inv-loop μ-loop
-returns-3 c = turn-stops _ (c .before .before .before .before .before .before .before .before .before .before .before .before .before .before .before .loop .inv .0) _ _ _ _ _ _ _ (c .before .before .before .before .before .before .before .before .before .before .before .before .before .before .before .loop .inv .2) (c .before .before .before .before .before .before .before .before .before .before .before .before .before .before .loop-test .taken) _ (c .before .before .before .before .before .before .before .before .before .before .before .is-over .ensures) (c .before .before .before .before .before .before .before .before .before .before .if2 .left) _ _ (item-done _ _ _ _ _ _ _ _ (c .before .before .before .before .before .before .before .before .before .before .before .before .before .before .before .loop .inv .2 .inside) (c .before .before .before .before .before .before .before .before .before .read-item .ensures) (c .before .before .before .before .before .before .before .do-item .ensures)) _ (c .before .before .goes-on .ensures) (not-true _ (c .before .if3 .taken)) _ (stop-is _ _ _ _ (c .place-of .ensures))
+returns-3 c = turn-stops _ (c .before .before .before .before .before .before .before .before .before .before .before .before .before .before .before .before .before .before .before .before .loop .inv .0) _ _ _ _ _ _ _ (c .before .before .before .before .before .before .before .before .before .before .before .before .before .before .before .before .before .before .before .before .loop .inv .2) (c .before .before .before .before .before .before .before .before .before .before .before .before .before .before .before .before .before .before .before .loop-test .taken) _ (c .before .before .before .before .before .before .before .before .before .before .before .before .before .before .before .before .is-over .ensures) (c .before .before .before .before .before .before .before .before .before .before .before .before .before .before .before .if2 .left) _ _ (item-done _ _ _ _ _ _ _ _ (c .before .before .before .before .before .before .before .before .before .before .before .before .before .before .before .before .before .before .before .before .loop .inv .2 .inside) (c .before .before .before .before .before .before .before .before .before .before .before .before .before .before .read-item .ensures) (c .before .before .before .before .before .before .before .do-item .ensures)) _ (c .before .before .goes-on .ensures) (not-true _ (c .before .if3 .taken)) _ (stop-is _ _ _ _ (c .place-of .ensures))
 
 pub run-items-spec : {M : Type 1} → statement M
 run-items-spec =
@@ -106,12 +124,18 @@ run-items-spec =
     loop-again
     is-over-requires
     read-item-requires
-    do-item-requires
+    move-item-requires
+    enum-known-moving
     add-done-2
-    goes-on-requires
-    place-of-requires
     loop-less-2
     loop-again-2
+    enum-told
+    do-item-requires
+    add-done-3
+    goes-on-requires
+    place-of-requires
+    loop-less-3
+    loop-again-3
     same-length
     returns
     same-length-2
