@@ -305,10 +305,6 @@ module _ (g : Measure) (v : Value) (p : List ℕ) (c : Core) (m : Beside) where
   row-done b d after page painting t o f fits clear i e h k l x y z =
       drawing fits (ap (λ (a : Core). length (a .seed)) (sym h) ∙ ap (λ (a : Core). length (a .seed)) (sym k) ∙ l) clear b d after page painting t o f i e h k x y z
 
--- whether there is no finding, where a `match` has told it
-pub clean-told : (f b : Finding) (t : Bool) → f ≡ b → t ≡ isClean b → t ≡ isClean f
-clean-told f b t e h = rw e h
-
 -- the row method behind a command that is not barred
 pub beside-moved : (k : Kind) (f : Finding) (m n : Beside) (t : Bool) → t ≡ isClean f → t ≡ true → ((v : Value) → n ≡ besideAfter (order k v) m) → (v : Value) → n ≡ cond (isClean f) (besideAfter (order k v) m) m
 beside-moved k f m n t e h z v = rw (← e, h) (z v)

@@ -5,7 +5,7 @@ use Prim.Native.Nat.{ℕ, zero, suc, _+_, _*_, _-_, _≤_, _<_}
 use native.Mathlib.Omega.{arith}
 use lib.ListN.{length, getD, set, replicate, length-append}
 use lib.Seq.{set-at}
-use Rattle.kept.specs.Kept.{u32At, u64At, spotAt, table}
+use Rattle.kept.specs.Kept.{u32At, spotAt, table}
 use Rattle.rules.specs.Measure.{spot}
 
 module _ {A : Type 0} where
@@ -33,10 +33,6 @@ module _ {A : Type 0} where
 -- four bytes are two and two
 pub u32-is : (b : List ℕ) (at low high : ℕ) → low ≡ getD b at 0 + 256 * getD b (at + 1) 0 → high ≡ getD b (at + 2) 0 + 256 * getD b (at + 2 + 1) 0 → low + 65536 * high ≡ u32At b at
 u32-is b at low high e f = let z : at + 2 + 1 ≡ at + 3 = omega arith in rw (e, f, z)
-
--- eight are four and four
-pub u64-is : (b : List ℕ) (at low high : ℕ) → low ≡ u32At b at → high ≡ u32At b (at + 4) → low + 4294967296 * high ≡ u64At b at
-u64-is b at low high e f = rw (e, f)
 
 -- two numbers are a place
 pub spot-is : (b : List ℕ) (at x y : ℕ) → x ≡ u32At b at → y ≡ u32At b (at + 4) → spot x y ≡ spotAt b at
