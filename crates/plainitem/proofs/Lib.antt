@@ -1,0 +1,3 @@
+-- The laws of an item written plain.
+pub mod Trimming
+pub mod Writing
