@@ -494,7 +494,7 @@ class Runs(leafcases.Cases):
     def long_case(self, kind):
         """Streams and plain streams about the longest, on a small page: each kind comes in its turn."""
         wide, high = 8 * self.between(6, 12), self.between(1, 40)
-        room = self.one_of((LONGEST, LONGEST, LONGEST + 1, 2 * LONGEST))
+        room = self.one_of((LONGEST, LONGEST + 1, 2 * LONGEST))
         if kind == 0:
             text = self.near_longest(0)
         elif kind == 1:

@@ -5,7 +5,7 @@
  * MET is written: how often each outcome came up. With -DPLAIN the plain C reader of bench/ stands in for the proved archive. */
 #include "cases.h"
 
-enum { LONGEST = 1048576, MOST_ROOM = 8000000, MOST_PAGE = 4080000 };
+enum { LONGEST = 1048576, MOST_ROOM = 8000000, MOST_LEARNT = 2 * LONGEST, MOST_PAGE = 4080000 };
 
 enum { /* behind findings 1 to 7 of the streams */
     PLAIN_STREAM = 7, EMPTY, SHORTER, LONGER, FULL, ENDED, LAST, REFUSED_10, REFUSED_12, REFUSED_ROOM, REFUSED_LONGEST, BOTH_10_12,
@@ -75,10 +75,11 @@ static void try_rooms(const struct case_line *c) {
     try_room(c, 0, "room of no bytes");
 }
 
-/* A room that is long enough, or longer than any: a byte of the stream comes to a row with its head at most, or to five bytes. */
+/* A room that is long enough, or that would be but for the limit: a byte of the stream comes to a row with its head at most, or to
+ * five bytes. */
 static size_t enough_for(const struct case_line *c) {
     size_t most = stream.n * (c->wide / 8 + 16);
-    return most < LONGEST ? most : LONGEST + 1;
+    return most < LONGEST ? most : MOST_LEARNT;
 }
 
 /* The plain stream, by a room that is long enough; false if it is too long for any. */
@@ -208,7 +209,7 @@ int main(int words, char **word) {
     }
     make(&room, MOST_ROOM);
     make(&tried, LONGEST + 1);
-    make(&known, LONGEST + 1);
+    make(&known, MOST_LEARNT);
     make(&sent.page, MOST_PAGE);
     make(&plain.page, MOST_PAGE);
     make(&sent.state, ROV_STATE);
