@@ -498,7 +498,7 @@ class Runs(leafcases.Cases):
         if kind == 0:
             text = self.near_longest(0)
         elif kind == 1:
-            text = self.near_longest(self.one_of((1, 1, 2, self.below(100))))
+            text = self.near_longest(self.one_of((1, 1, 2, self.between(3, 99))))
         elif kind == 2:
             text = self.long_stream(LONGEST)
         else:
@@ -569,8 +569,9 @@ def lines(words):
         return vectors()
     if len(words) != 3 or words[0] not in ("R", "T") or not (words[1].isascii() and words[1].isdigit()):
         return None
-    cases = Runs(*words[::2])
-    return (cases.case_t(number) if words[0] == "T" else cases.case_r() for number in range(int(words[1])))
+    kind, count, seed = words
+    cases = Runs(kind, seed)
+    return (cases.case_t(number) if kind == "T" else cases.case_r() for number in range(int(count)))
 
 
 def main(words):

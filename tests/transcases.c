@@ -45,12 +45,15 @@ static bool is_filled(const uint8_t *bytes, size_t n, uint8_t fill) {
     return n == 0 || (bytes[0] == fill && memcmp(bytes, bytes + 1, n - 1) == 0);
 }
 
+/* A pointer to no bytes is not read. */
+static uint8_t *pointer(const struct lent *l) { return l->n ? l->bytes : NULL; }
+
 /* A call with a room of n bytes, each of them `fill`. What no call may do is blamed here. */
 static struct numbers translate(const struct case_line *c, const struct lent *from, struct lent *to, size_t n, uint8_t fill) {
     struct numbers x = {JUNK, JUNK, JUNK, JUNK};
     set_length(to, n);
     memset(to->bytes, fill, n);
-    x.code = rov_translate(c->wide, c->high, from->bytes, from->n, to->bytes, n, &x.length);
+    x.code = rov_translate(c->wide, c->high, pointer(from), from->n, pointer(to), n, &x.length);
     if (x.guard0 != JUNK || x.guard1 != JUNK) blame("guards of the length");
     check_guards(to, "guards of the room");
     if (x.code && x.length) blame("a refused call gave a length");
