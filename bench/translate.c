@@ -44,41 +44,53 @@ static int both_do_the_same(struct bytes b) {
     return proved.code == plain.code && proved.length == plain.length && memcmp(proved_room, plain_room, MOST) == 0;
 }
 
-/* ---- where a stream may be cut: between items, with no sequence open. The items are those that a run does, one at a time. */
-static uint8_t page[W / 8 * H];
+/* ---- cutting a stream */
+static size_t cuts[MOST + 2];
 
-/* The longest beginning of the stream whose plain stream, too, has at most so many bytes. It is found by halves: a longer beginning, if
- * it is cut between items, has no shorter plain stream. */
-static size_t beginning(const uint8_t *from, size_t n, size_t most) {
-    static size_t cuts[MOST + 2];
+/* The places where a stream may be cut: behind whole items, with no sequence open. Gives how many there are behind the first, 0. */
+static size_t find_cuts(struct bytes b) {
+    static uint8_t page[W / 8 * H];
     uint8_t state[ROV_STATE];
-    size_t place = 0, done, found, ended, low = 0, high = 0;
+    size_t place = 0, count = 0, done, found, ended;
     plain_afresh(W, H, state, ROV_STATE);
-    state[ROV_USED] = 1; /* no page is zeroed for it */
-    cuts[0] = 0;
-    while (place < n && place < most) {
-        plain_run(W, H, page, sizeof page, from, n, state, ROV_STATE, 1, &place, &done, &found, &ended);
-        state[ROV_USED] = 1;
-        if (!state[ROV_FIRST] && place <= most) cuts[++high] = place;
+    while (place < b.n) {
+        state[ROV_USED] = 1; /* no page is zeroed for an item */
+        if (plain_run(W, H, page, sizeof page, b.from, b.n, state, ROV_STATE, 1, &place, &done, &found, &ended) == 1) break;
+        if (!state[ROV_FIRST]) cuts[++count] = place;
     }
+    return count;
+}
+
+/* The longest beginning of a stream whose plain stream has at most so many bytes. It is found by halves: of two beginnings the
+ * longer one has no shorter plain stream. */
+static struct bytes beginning(struct bytes b, size_t most) {
+    size_t low = 0, high = find_cuts(b);
     while (low < high) {
         size_t middle = (low + high + 1) / 2;
-        translate(&plain, (struct bytes){from, cuts[middle]});
+        translate(&plain, (struct bytes){b.from, cuts[middle]});
         if (plain.code == 0 && plain.length <= most) low = middle;
         else high = middle - 1;
     }
-    return cuts[low];
+    return (struct bytes){b.from, cuts[low]};
 }
 
 /* ESC E and the beginning of the stream, sixteen times: each part is translated from afresh, so that all are the same work. */
 static struct bytes make_parts(void) {
-    static uint8_t part[MOST / PARTS];
-    size_t n;
-    memcpy(part, "\33E", 2);
-    memcpy(part + 2, stream, sizeof part - 2);
-    n = beginning(part, sizeof part, sizeof part);
-    for (size_t i = 0; i < PARTS; i++) memcpy(parts + i * n, part, n);
-    return (struct bytes){parts, n * PARTS};
+    static uint8_t bytes[MOST / PARTS];
+    struct bytes part;
+    memcpy(bytes, "\33E", 2);
+    memcpy(bytes + 2, stream, sizeof bytes - 2);
+    part = beginning((struct bytes){bytes, sizeof bytes}, sizeof bytes);
+    for (size_t i = 0; i < PARTS; i++) memcpy(parts + i * part.n, part.from, part.n);
+    return (struct bytes){parts, part.n * PARTS};
+}
+
+/* The sixteen parts have sixteen times the plain stream of one. */
+static int parts_are_alike(struct bytes all) {
+    size_t length;
+    translate(&plain, (struct bytes){all.from, all.n / PARTS});
+    length = plain.length;
+    return both_do_the_same(all) && proved.code == 0 && proved.length == PARTS * length;
 }
 
 /* ---- measuring */
@@ -104,7 +116,7 @@ static int line_of(const char *name, struct bytes whole, struct bytes all) {
     struct times t;
     uint32_t code;
     size_t length;
-    if (!both_do_the_same(all) || proved.code || !both_do_the_same(whole)) return 1;
+    if (!both_do_the_same(whole)) return 1;
     code = proved.code;
     length = proved.length;
     t = measure(whole, all);
@@ -117,16 +129,15 @@ static int line_of(const char *name, struct bytes whole, struct bytes all) {
 }
 
 static int lines_of(const char *file, const char *name) {
-    struct bytes all;
-    size_t n;
+    struct bytes whole = {stream, MOST}, all;
+    int refused, failed;
     if (!read_stream(file)) return 1;
     all = make_parts();
-    n = beginning(stream, MOST, MOST);
-    if (line_of(name, (struct bytes){stream, n}, all) || (n < MOST && line_of(name, (struct bytes){stream, MOST}, all))) {
-        fprintf(stderr, "translate: %s: DIFFERENT RESULTS\n", name);
-        return 1;
-    }
-    return 0;
+    translate(&plain, whole);
+    refused = plain.code != 0;
+    failed = !parts_are_alike(all) || line_of(name, refused ? beginning(whole, MOST) : whole, all) || (refused && line_of(name, whole, all));
+    if (failed) fprintf(stderr, "translate: %s: DIFFERENT RESULTS\n", name);
+    return failed;
 }
 
 int main(int words, char **word) {
