@@ -106,7 +106,7 @@ fn left(n: usize, k: usize) -> usize
 }
 
 // n bytes from place i of the payload, as far as they are there, go into the row from a place on, as far as it reaches.
-fn copy(row: &mut [u8], at: usize, s: &[u8], i: usize, n: usize)
+pub fn copy(row: &mut [u8], at: usize, s: &[u8], i: usize, n: usize)
     ensures { λ _. ⌜ now (row .exit) ≡ sets (now (row .entry)) at (take n (drop i (now (s .entry)))) ⌝ }
 {
     let m = least(n, least(left(row.len(), at), left(s.len(), i)));

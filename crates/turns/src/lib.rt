@@ -50,7 +50,7 @@ fn is_text(b: u8) -> bool
 }
 
 // Whether the next item is space or text: the cursor moves, and nothing else is to be looked at.
-fn text_next(s: &[u8], at: usize, q: Sequence) -> bool
+pub fn text_next(s: &[u8], at: usize, q: Sequence) -> bool
     ensures { λ r. ⌜ r ≡ textNext (now (s .entry)) at q ⌝ }
 {
     if s.len() <= at {
