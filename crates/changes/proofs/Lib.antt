@@ -1,0 +1,4 @@
+-- The laws of this crate.
+pub mod Products
+pub mod Rates
+pub mod Changing
