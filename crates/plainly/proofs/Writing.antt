@@ -13,8 +13,8 @@ use Rattle.rules.specs.declared.Kind.{Kind}
 use Rattle.rules.specs.Commands.{Spelling, spelling, spelled, printSpelled, rowSpelled, useOf}
 use Rattle.rules.specs.Acts.{order, print, draw}
 use Rattle.rules.specs.Plain.{decimal, putValue, isIgnored, put, putCounted}
-use Rattle.number.specs.Answers.{Counted}
-use Rattle.number.proofs.Laws.{decimal-append, value-append, used-append}
+use Rattle.lengths.specs.Counts.{Counted}
+use Rattle.written.proofs.Laws.{decimal-append, value-append, used-append}
 use Rattle.plainly.specs.declared.Named.{Named}
 use Rattle.plainly.specs.Plain.{named, headOf, HeadLength}
 

@@ -1,14 +1,14 @@
 // Commands written plain: each as its own sequence, ended by a capital. Where the room ends, writing ends; nothing is written outside it.
-use number::put_byte;
 use rules::Kind;
 use rules::Value;
+use written::put_byte;
 ghost use mathlib.Core.Path.{_≡_};
 ghost use mathlib.Core.List.{List, [], _∷_};
 ghost use Rattle.common.specs.Stores.{Wrote};
 ghost use Rattle.rules.specs.Commands.{spelling, printSpelled, rowSpelled};
 ghost use Rattle.rules.specs.Acts.{order};
 ghost use Rattle.rules.specs.Plain.{put};
-ghost use Rattle.number.specs.Answers.{Counted};
+ghost use Rattle.lengths.specs.Counts.{Counted};
 ghost use Rattle.plainly.specs.Plain.{named, headOf, HeadLength};
 
 // The three bytes that name a command, and whether a value is written among them.
@@ -58,7 +58,7 @@ pub fn write_command(k: Kind, v: Value, room: &mut [u8], at: usize) -> usize
     let letter = by.2;
     let behind = write_start(by.0, by.1, room, at);
     if by.3 {
-        let end = number::write_value(v, room, behind);
+        let end = written::write_value(v, room, behind);
         return put_byte(letter, room, end);
     }
     put_byte(letter, room, behind)
@@ -70,7 +70,7 @@ pub fn command_length(k: Kind, v: Value) -> usize
 {
     let name = name_of(k);
     if name.3 {
-        return 4 + number::value_length(v);
+        return 4 + lengths::value_length(v);
     }
     4
 }
@@ -80,7 +80,7 @@ fn write_head(first: u8, group: u8, letter: u8, n: usize, room: &mut [u8], at: u
     ensures { λ r. ⌜ Wrote (now (room .entry)) at (headOf (spelling first group letter) n) (now (room .exit)) r ⌝ }
 {
     let behind = write_start(first, group, room, at);
-    let end = number::write_decimal(n, room, behind);
+    let end = written::write_decimal(n, room, behind);
     put_byte(letter, room, end)
 }
 
@@ -102,5 +102,5 @@ pub fn write_row_head(n: usize, room: &mut [u8], at: usize) -> usize
 pub fn head_length(n: usize) -> usize
     ensures { λ r. ⌜ HeadLength n r ⌝ }
 {
-    4 + number::decimal_length(n)
+    4 + lengths::decimal_length(n)
 }

@@ -29,9 +29,9 @@ use rules::Refusal;
 use rules::Sequence;
 use rules::State;
 use rules::Verdict;
+use soundness::sound;
 use state::allowed;
 use state::measure_of;
-use state::sound;
 use text::marked;
 use text::typed_at;
 
