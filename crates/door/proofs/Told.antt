@@ -17,14 +17,15 @@ use Rattle.rules.specs.declared.Verdict.the-variants.{Carried, Refused}
 use Rattle.rules.specs.declared.State.{State}
 use Rattle.rules.specs.declared.Ran.{Ran}
 use Rattle.rules.specs.Measure.{allowed, measureOf, pageBytes}
-use Rattle.rules.specs.Findings.{findingNumber, refusalNumber}
+use Rattle.rules.specs.Findings.{findingNumber, refusalNumber, verdictNumber}
 use Rattle.rules.specs.Sound.{sound}
 use Rattle.rules.specs.States.{afresh}
 use Rattle.rules.specs.Run.{answer}
-use Rattle.theorems.specs.Statements.{RunPromise}
+use Rattle.rules.specs.declared.Translated.{Translated}
+use Rattle.theorems.specs.Statements.{RunPromise, TranslatePromise}
 use Rattle.theorems.specs.Facts.{Fits}
 use Rattle.kept.specs.Kept.{stateAt, stateBytes}
-use Rattle.door.specs.Answers.{MadeAfresh, ranNumber, keptAfter, flagged, Answered}
+use Rattle.door.specs.Answers.{MadeAfresh, ranNumber, keptAfter, flagged, Answered, ToldPlain}
 
 module _ (W H : ℕ) (x : Bool) (a : x ≡ allowed W H) where
   -- 10
@@ -89,3 +90,13 @@ answered W H page stream state allowance place n page′ state′ ended t r e h 
       found-is = ap (λ (z : Ran). z .found) g;
       ended-is = f ∙ ap (λ (z : Ran). flagged (z .ended)) g;
     }
+
+-- a translation is answered as it was given
+pub told-plain : (W H : ℕ) (stream room : List ℕ) (r : Translated) (after : List ℕ) (n : ℕ) → TranslatePromise W H stream room r after → n ≡ verdictNumber (r .verdict)
+    → ToldPlain W H stream room n after (r .length)
+told-plain W H stream room r after n h e = record {
+  number = e ∙ ap (λ (x : Translated). verdictNumber (x .verdict)) (h .given);
+  room-is = h .lent;
+  length-is = ap (λ (x : Translated). x .length) (h .given);
+  demand = h .demand;
+}

@@ -1,6 +1,6 @@
 -- What the functions for C answer: the rules' outcome, as numbers and bytes.
 use mathlib.Core.Path.{_≡_}
-use mathlib.Core.Bool.{Bool, cond, not}
+use mathlib.Core.Bool.{Bool, true, cond, not}
 use mathlib.Core.List.{List}
 use Prim.Native.Nat.{ℕ}
 use lib.Dec.{ltb}
@@ -13,9 +13,11 @@ use Rattle.rules.specs.declared.Finding.{Finding}
 use Rattle.rules.specs.declared.State.{State}
 use Rattle.rules.specs.declared.Ran.{Ran}
 use Rattle.rules.specs.Measure.{allowed, measureOf}
-use Rattle.rules.specs.Findings.{findingNumber, refusalNumber}
+use Rattle.rules.specs.Findings.{findingNumber, refusalNumber, verdictNumber}
 use Rattle.rules.specs.States.{afresh}
 use Rattle.rules.specs.Run.{answer}
+use Rattle.rules.specs.Plain.{translate}
+use Rattle.theorems.specs.Statements.{Demand3}
 use Rattle.kept.specs.Kept.{stateAt, stateBytes}
 
 -- the refusal of a state afresh, 0 for none: 10, and 13 where there is no room for a state
@@ -58,3 +60,10 @@ pub record Answered (W H : ℕ) (page stream state : List ℕ) (allowance place 
   pub done-is : done ≡ answer W H page stream (stateAt state) place allowance .ran .done
   pub found-is : found ≡ answer W H page stream (stateAt state) place allowance .ran .found
   pub ended-is : ended ≡ flagged (answer W H page stream (stateAt state) place allowance .ran .ended)
+
+-- a translation answered: the rules' own, and demand 3 of it
+pub record ToldPlain (W H : ℕ) (stream room : List ℕ) (n : ℕ) (room′ : List ℕ) (long : ℕ) : Type 0 where
+  pub number : n ≡ verdictNumber (translate W H stream room .given .verdict)
+  pub room-is : room′ ≡ translate W H stream room .room
+  pub length-is : long ≡ translate W H stream room .given .length
+  pub demand : allowed W H ≡ true → Demand3 (measureOf W H) stream

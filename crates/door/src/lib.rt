@@ -8,7 +8,8 @@ ghost use Rattle.common.specs.Bits.{onesAll};
 ghost use Rattle.rules.specs.Measure.{allowed, measureOf, pageBytes};
 ghost use Rattle.rules.specs.Sound.{sound};
 ghost use Rattle.kept.specs.Kept.{stateAt};
-ghost use Rattle.door.specs.Answers.{MadeAfresh, ranNumber, keptAfter, flagged, Answered};
+ghost use Rattle.rules.specs.Findings.{verdictNumber};
+ghost use Rattle.door.specs.Answers.{MadeAfresh, ranNumber, keptAfter, flagged, Answered, ToldPlain};
 use fresh::afresh;
 use kept::read_state;
 use numbered::finding_number;
@@ -113,4 +114,31 @@ pub extern "C" fn rov_run(
     *found = r.found;
     *ended = flag_of(r.ended);
     give_back(r, state)
+}
+
+// A verdict's number, 0 where the call was carried out.
+fn verdict_number(v: Verdict) -> u32
+    ensures { λ r. ⌜ r ≡ verdictNumber v ⌝ }
+{
+    match v {
+        Verdict::Carried => 0,
+        Verdict::Refused(why) => refusal_number(why),
+    }
+}
+
+// The plain stream of the stream, written to the front of the room.
+#[no_mangle]
+pub extern "C" fn rov_translate(
+    w: usize,
+    h: usize,
+    stream: &[u8],
+    room: &mut [u8],
+    length: &mut usize,
+) -> u32
+    ensures { λ n. ⌜ ToldPlain w h (now (stream .entry)) (now (room .entry)) n (now (room .exit)) (now (length .exit)) ⌝ }
+{
+    let r = translate::translate(w, h, stream, room);
+    *length = r.length;
+    let verdict = r.verdict;
+    verdict_number(verdict)
 }

@@ -46,7 +46,7 @@ fn is_closed(q: Sequence) -> bool
 }
 
 // Whether there is no item to do: the stream's end, and no sequence open.
-fn is_over(s: &[u8], at: usize, q: Sequence) -> bool
+pub fn is_over(s: &[u8], at: usize, q: Sequence) -> bool
     ensures { λ r. ⌜ r ≡ (isClosed q && isNil (drop at (now (s .entry)))) ⌝ }
 {
     if at < s.len() { false } else { is_closed(q) }
@@ -60,7 +60,7 @@ fn is_text(b: u8) -> bool
 }
 
 // Whether the next item is space or text: the cursor moves, and nothing else is to be looked at.
-fn text_next(s: &[u8], at: usize, q: Sequence) -> bool
+pub fn text_next(s: &[u8], at: usize, q: Sequence) -> bool
     ensures { λ r. ⌜ r ≡ textNext (now (s .entry)) at q ⌝ }
 {
     if s.len() <= at {

@@ -1,0 +1,4 @@
+-- The laws of an item written plain.
+pub mod Trimming
+pub mod Writing
+pub mod Meaning

@@ -1,0 +1,212 @@
+// One item in the plain stream: text, codes and two-byte commands as they are, each command as its own sequence, rows as *b#W. What was
+// not carried out is dropped. Where the room ends, writing ends; the next place is given all the same, so that a walk over an empty
+// room counts. Nothing is refused: from and to are the payload's places as the reader gives them.
+ghost use mathlib.Core.Path.{_≡_};
+ghost use mathlib.Core.List.{List, [], _∷_};
+ghost use Prim.Native.Nat.{ℕ, _+_, _≤_};
+ghost use lib.ListN.{length};
+ghost use Rattle.common.specs.Choice.{oneOf};
+ghost use Rattle.common.specs.Lists.{trim};
+ghost use Rattle.rules.specs.declared.Command.the-variants.{Valued, Print, Row};
+ghost use Rattle.rules.specs.Acts.{order};
+ghost use Rattle.rules.specs.Plain.{put};
+ghost use Rattle.reader.specs.Items.{itemIn, fromOf, toOf};
+ghost use Rattle.plainitem.specs.Plain.{Puts, PutsShort, carriedCodes, plainBytes, plainCommand, plainItem};
+use changes::copy;
+use items::is_clean;
+use plainly::command_length;
+use plainly::head_length;
+use plainly::write_command;
+use plainly::write_print_head;
+use plainly::write_row_head;
+use reader::Item;
+use rules::Command;
+use rules::Finding;
+use rules::Kind;
+use rules::Value;
+use values::used_value;
+use values::whole_negative;
+
+// One byte, where there is room for it.
+pub fn write_one(b: u8, room: &mut [u8], at: usize) -> usize
+    requires { ⌜ at ≤ 1099511627776 ⌝ }
+    ensures { λ r. ⌜ Puts (now (room .entry)) at (b ∷ []) (now (room .exit)) r ⌝ }
+{
+    if room.len() <= at {
+        return at + 1;
+    }
+    room[at] = b;
+    at + 1
+}
+
+// ESC and a byte.
+fn write_two(b: u8, room: &mut [u8], at: usize) -> usize
+    requires { ⌜ at ≤ 1099511627775 ⌝ }
+    ensures { λ r. ⌜ Puts (now (room .entry)) at (27 ∷ b ∷ []) (now (room .exit)) r ⌝ }
+{
+    let next = write_one(27, room, at);
+    write_one(b, room, next)
+}
+
+// A command with its used value.
+fn write_order(k: Kind, v: Value, room: &mut [u8], at: usize) -> usize
+    requires { ⌜ at ≤ 1099511627776 ⌝ }
+    ensures { λ r. ⌜ PutsShort (now (room .entry)) at (put (order k v) []) (now (room .exit)) r ⌝ }
+{
+    let n = command_length(k, v);
+    if room.len() <= at {
+        return at + n;
+    }
+    write_command(k, v, room, at);
+    at + n
+}
+
+// A command with a value and no payload, unless it has a finding.
+fn write_valued(k: Kind, v: Value, f: Finding, room: &mut [u8], at: usize) -> usize
+    requires { ⌜ at ≤ 1099511627776 ⌝ }
+    ensures { λ r. ⌜ ((p row : List ℕ) → PutsShort (now (room .entry)) at (plainCommand (Valued k v) p f row) (now (room .exit)) r) ⌝ }
+{
+    if is_clean(f) {
+        write_order(k, used_value(k, v), room, at)
+    } else {
+        at
+    }
+}
+
+// &p#X with its payload; a negative value is not carried out.
+fn write_print(v: Value, payload: &[u8], room: &mut [u8], at: usize) -> usize
+    requires { ⌜ (at ≤ 1099511627776) × (length (now payload) ≤ 32767) ⌝ }
+    ensures { λ r. ⌜ ((f : Finding) (row : List ℕ) → PutsShort (now (room .entry)) at (plainCommand (Print v) (now (payload .entry)) f row) (now (room .exit)) r) ⌝ }
+{
+    if whole_negative(v) {
+        return at;
+    }
+    let n = payload.len();
+    let behind = at + head_length(n);
+    if room.len() <= at {
+        return behind + n;
+    }
+    write_print_head(n, room, at);
+    copy(room, behind, payload, 0, n);
+    behind + n
+}
+
+// The length of a row up to its last nonzero byte.
+fn trimmed(row: &[u8]) -> usize
+    ensures { λ r. ⌜ (r ≡ length (trim (now (row .entry)))) × (r ≤ length (now (row .entry))) ⌝ }
+{
+    let mut n = row.len();
+    while 0 < n {
+        if row[n - 1] != 0 {
+            return n;
+        }
+        n -= 1;
+    }
+    n
+}
+
+// *b#W with the bytes of a row up to the last nonzero one; a negative value is not carried out.
+fn write_row(v: Value, row: &[u8], room: &mut [u8], at: usize) -> usize
+    requires { ⌜ (at ≤ 1099511627776) × (length (now row) ≤ 600) ⌝ }
+    ensures { λ r. ⌜ ((f : Finding) (p : List ℕ) → PutsShort (now (room .entry)) at (plainCommand (Row v) p f (now (row .entry))) (now (room .exit)) r) ⌝ }
+{
+    if whole_negative(v) {
+        return at;
+    }
+    let n = trimmed(row);
+    let behind = at + head_length(n);
+    if room.len() <= at {
+        return behind + n;
+    }
+    write_row_head(n, room, at);
+    copy(room, behind, row, 0, n);
+    behind + n
+}
+
+// Whether a control code does something.
+fn is_carried(b: u8) -> bool
+    ensures { λ r. ⌜ r ≡ oneOf carriedCodes b ⌝ }
+{
+    match b {
+        13 => true,
+        10 => true,
+        12 => true,
+        8 => true,
+        9 => true,
+        _ => false,
+    }
+}
+
+// A control code, unless it is ignored.
+fn write_code(b: u8, room: &mut [u8], at: usize) -> usize
+    requires { ⌜ at ≤ 1099511627776 ⌝ }
+    ensures { λ r. ⌜ ((f : Finding) → Puts (now (room .entry)) at (plainBytes (Item.Code b) f) (now (room .exit)) r) ⌝ }
+{
+    if is_carried(b) {
+        write_one(b, room, at)
+    } else {
+        at
+    }
+}
+
+// A two-byte command, unless it has a finding.
+fn write_escape(b: u8, f: Finding, room: &mut [u8], at: usize) -> usize
+    requires { ⌜ at ≤ 1099511627775 ⌝ }
+    ensures { λ r. ⌜ Puts (now (room .entry)) at (plainBytes (Item.Two b) f) (now (room .exit)) r ⌝ }
+{
+    if is_clean(f) {
+        write_two(b, room, at)
+    } else {
+        at
+    }
+}
+
+// An item that is no command.
+fn write_bytes(i: Item, f: Finding, room: &mut [u8], at: usize) -> usize
+    requires { ⌜ at ≤ 1099511627775 ⌝ }
+    ensures { λ r. ⌜ Puts (now (room .entry)) at (plainBytes i f) (now (room .exit)) r ⌝ }
+{
+    match i {
+        Item::Text(b) => write_one(b, room, at),
+        Item::Code(b) => write_code(b, room, at),
+        Item::Two(b) => write_escape(b, f, room, at),
+        Item::Command {
+            command: _,
+            from: _,
+            to: _,
+        } => at,
+        Item::Broken(_) => at,
+    }
+}
+
+// A command with its payload. A row is written as it was left in the seed row, which a damaged one left as zeros.
+fn write_whole(
+    k: Command,
+    payload: &[u8],
+    f: Finding,
+    row: &[u8],
+    room: &mut [u8],
+    at: usize,
+) -> usize
+    requires { ⌜ (at ≤ 1099511627776) × (length (now payload) ≤ 32767) × (length (now row) ≤ 600) ⌝ }
+    ensures { λ r. ⌜ PutsShort (now (room .entry)) at (plainCommand k (now (payload .entry)) f (now (row .entry))) (now (room .exit)) r ⌝ }
+{
+    match k {
+        Command::Valued(kind, v) => write_valued(kind, v, f, room, at),
+        Command::Method(_) => at,
+        Command::Print(v) => write_print(v, payload, room, at),
+        Command::Row(v) => write_row(v, row, room, at),
+        Command::Unknown => at,
+    }
+}
+
+// What an item of the stream s comes to in the plain stream, where it had this finding and left this row as seed row.
+pub fn write_item(s: &[u8], i: Item, f: Finding, row: &[u8], room: &mut [u8], at: usize) -> usize
+    requires { ⌜ (fromOf i ≤ toOf i) × (toOf i ≤ length (now s)) × (toOf i ≤ fromOf i + 32767) × (length (now row) ≤ 600) × (at ≤ 1099511627775) ⌝ }
+    ensures { λ r. ⌜ PutsShort (now (room .entry)) at (plainItem (itemIn (now (s .entry)) i) f (now (row .entry))) (now (room .exit)) r ⌝ }
+{
+    let Item::Command { command, from, to } = i else {
+        return write_bytes(i, f, room, at);
+    };
+    write_whole(command, &s[from..to], f, row, room, at)
+}

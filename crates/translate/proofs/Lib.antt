@@ -1,0 +1,3 @@
+-- The laws of a stream written plain.
+pub mod Telling
+pub mod Answers

@@ -1,0 +1,164 @@
+-- A stream written plain, item by item. Assumes nothing.
+use mathlib.Core.Path.{_≡_, refl, sym, ap, _∙_}
+use mathlib.Core.Bool.{Bool, true, false, cond, false≢true}
+use mathlib.Core.List.{List, [], _∷_, _++_, append-nil, append-assoc}
+use Prim.Native.Nat.{ℕ, zero, suc, _+_, _*_, _-_, _≤_, _<_}
+use native.Mathlib.Omega.{arith}
+use native.Mathlib.Nat.{sub-zero}
+use lib.ListN.{length, take, drop}
+use lib.Seq.{length-sets}
+use Rattle.common.proofs.Choices.{choice-by}
+use Rattle.rules.specs.declared.Measure.{Measure}
+use Rattle.rules.specs.declared.Sequence.the-variants.{Closed}
+use Rattle.rules.specs.declared.Finding.{Finding}
+use Rattle.rules.specs.declared.Core.{Core}
+use Rattle.rules.specs.declared.Beside.{Beside}
+use Rattle.rules.specs.declared.State.{State}
+use Rattle.rules.specs.Sound.{sequenceSound}
+use Rattle.rules.specs.States.{stateOf, freshCore, afresh}
+use Rattle.rules.specs.Items.{read}
+use Rattle.rules.specs.Items as rule
+use Rattle.rules.specs.Acts.{Act, nextAll, mean, step, over}
+use Rattle.rules.specs.Run.{Trace, trace, traceOf, enough, wholeStream, actsOf, acts}
+use Rattle.rules.specs.Plain.{put, putAll, plain}
+use Rattle.reader.specs.declared.ReadItem.{ReadItem}
+use Rattle.reader.specs.Items.{itemIn, ItemAt}
+use Rattle.reader.proofs.Places.{read-back}
+use Rattle.items.specs.declared.Acted.{Acted}
+use Rattle.items.specs.Acted.{acted, ActedOn}
+use Rattle.run.specs.Turns.{ItemDone}
+use Rattle.run.proofs.Turns.{item-done}
+use Rattle.theorems.specs.Facts.{Fits, Shaped, SoundState}
+use Rattle.theorems.proofs.Reading.{left}
+use Rattle.theorems.proofs.Lengths.{fresh-shaped}
+use Rattle.theorems.proofs.Soundness.{fresh-sound}
+use Rattle.theorems.proofs.Streams.{step-shaped, step-left}
+use Rattle.theorems.proofs.Sound.{step-sound}
+use Rattle.plainitem.specs.Plain.{Puts, PutsShort, plainItem}
+use Rattle.plainitem.proofs.Writing.{puts-none, puts-both}
+use Rattle.plainitem.proofs.Meaning.{item-tells}
+
+-- acts behind acts
+putAll-append : (k l : List Act) (s : List ℕ) → putAll (k ++ l) s ≡ putAll k (putAll l s)
+unfolding putAll
+putAll-append [] l s = refl
+putAll-append (a ∷ k) l s = ap (put a) (putAll-append k l s)
+
+module _ (g : Measure) (t : State) (s : List ℕ) where
+  -- what is left tells nothing more at the end
+  trace-over : (n : ℕ) → over t s ≡ true → trace g n t s .items ≡ []
+  unfolding trace
+  trace-over zero e = refl
+  trace-over (suc n) e = rw e
+
+  -- and before it the item's acts, and then the rest
+  trace-more : (n : ℕ) → 0 < n → over t s ≡ false → actsOf (trace g n t s .items) ≡ step g t s .done .acts ++ actsOf (trace g (n - 1) (step g t s .state) (step g t s .rest) .items)
+  unfolding trace actsOf
+  trace-more zero p e = absurd (omega arith)
+  trace-more (suc n) p e = let z : suc n - 1 ≡ n = omega arith in rw (e, z)
+
+-- a part that begins at the front
+pub front-done : {room after : List ℕ} {at r : ℕ} (i : rule.Item) (f : Finding) (w : ℕ) (d : List ℕ) → PutsShort room at (plainItem i f (take (w - 0) (drop 0 d))) after r → PutsShort room at (plainItem i f (take w d)) after r
+front-done i f w d h = rw (sub-zero w) at h
+
+-- a stream is under way: so much of its plain stream is written, and what is left of it tells the rest
+pub record Telling (g : Measure) (s before : List ℕ) (t : State) (at : ℕ) (room : List ℕ) (end : ℕ) : Type 0 where
+  pub written : List ℕ
+  pub fuel : ℕ
+  pub all : plain g s ≡ written ++ putAll (actsOf (trace g fuel t (drop at s) .items)) []
+  pub fuelled : left (t .sequence) (drop at s) ≤ fuel
+  pub puts : Puts before 0 written room end
+  pub few : end + 32791 * left (t .sequence) (drop at s) ≤ 32791 * (2 * length s + 1)
+  pub inside : at ≤ length s
+  pub shaped : Shaped (t .core)
+  pub sound : SoundState g t
+
+-- before the first item
+pub telling-first : (g : Measure) (s room : List ℕ) (t : State) → Fits g → t ≡ afresh g → Telling g s room t 0 room 0
+unfolding plain acts wholeStream left afresh sequenceSound
+telling-first g s room t f e = let z : left (afresh g .sequence) (drop 0 s) ≡ 2 * length s = refl in rw e (record {
+  written = [];
+  fuel = enough s;
+  all = refl;
+  fuelled = omega arith;
+  puts = puts-none room 0;
+  few = omega arith;
+  inside = omega arith;
+  shaped = fresh-shaped g;
+  sound = record { core = fresh-sound g f; method = omega arith; sequence = refl };
+})
+
+-- no bytes are none
+pub no-bytes : (l : List ℕ) → length l ≡ 0 → l ≡ []
+no-bytes [] e = refl
+no-bytes (b ∷ l) e = absurd (omega arith)
+
+-- the room keeps its length
+pub telling-long : (g : Measure) (s before : List ℕ) (t : State) (at : ℕ) (room : List ℕ) (end : ℕ) → Telling g s before t at room end → length room ≡ length before
+telling-long g s before t at room end h = ap length (h .puts .held) ∙ length-sets before 0 (h .written)
+
+module _ (g : Measure) (fit : Fits g) (s before : List ℕ) (t : State) (at : ℕ) (room : List ℕ) (end : ℕ) (h : Telling g s before t at room end) where
+  -- the place written at is small
+  pub telling-small : length s ≤ 1048576 → end ≤ 1099511627775
+  telling-small l = let f = h .few in omega arith
+
+  -- at the end all is written
+  pub telling-over : (x : Bool) → x ≡ over t (drop at s) → x ≡ true → Puts before 0 (plain g s) room end
+  unfolding actsOf putAll
+  telling-over x e f =
+      let z : plain g s ≡ h .written = rw (trace-over g t (drop at s) (h .fuel) (sym e ∙ f), append-nil (h .written)) at (h .all) in
+      rw z (h .puts)
+
+  module _ (x : Bool) (e : x ≡ over t (drop at s)) (f : x ≡ false) (r : ReadItem) (a : Acted) (p after : List ℕ) (i : ItemAt s at (t .sequence) r)
+      (d : ActedOn g (mean g (itemIn s (r .item)) (t .core) (t .beside)) (t .core) p a after) where
+    not-over : over t (drop at s) ≡ false
+    not-over = sym e ∙ f
+
+    done : ItemDone g t p s at (record { state = stateOf (a .core) (a .beside) (r .sequence); next = r .next; finding = a .finding; ended = a .ended }) after
+    done = item-done g t p s at a after r (h .inside) i d
+
+    -- the bytes of an item are those of its acts
+    abbrev bytes : List ℕ
+    bytes = plainItem (itemIn s (r .item)) (a .finding) (take (g .wide) (a .core .seed))
+
+    item-acts : (l : List ℕ) → putAll (step g t (drop at s) .done .acts) l ≡ bytes ++ l
+    unfolding step acted
+    item-acts l =
+        let z : itemIn s (r .item) ≡ read (t .sequence) (drop at s) .item = ap (λ (y : ReadItem). itemIn s (y .item)) (i .is) ∙ read-back s at (t .sequence) in
+        rw (← z, d .given) (item-tells g (t .core) (t .beside) l (itemIn s (r .item)) (fit .wide) (h .shaped))
+
+    -- the seed row holds a row
+    pub telling-seed : g .wide ≤ length (a .core .seed)
+    telling-seed =
+        let n : length (step g t (drop at s) .state .core .seed) ≡ 600 = step-shaped g (fit .wide) t (drop at s) (h .shaped) not-over .0 in
+        let m : a .core ≡ step g t (drop at s) .state .core = ap (λ (z : State). z .core) (done .state) in
+        let w = fit .wide in
+        rw m (omega arith)
+
+    -- less is left
+    pub telling-less : left (r .sequence) (drop (r .next) s) < left (t .sequence) (drop at s)
+    telling-less =
+        let m : r .sequence ≡ step g t (drop at s) .state .sequence = ap (λ (z : State). z .sequence) (done .state) in
+        rw (m, done .left) (step-left g t (drop at s) not-over)
+
+    -- behind an item: it was drawn on a page of no bytes, which lie before the room
+    pub telling-more : (none room′ : List ℕ) (end′ : ℕ) → length none ≡ 0 → PutsShort (none ++ room) end bytes room′ end′ → Telling g s before (stateOf (a .core) (a .beside) (r .sequence)) (r .next) room′ end′
+    telling-more none room′ end′ z y =
+        let q : PutsShort room end bytes room′ end′ = rw (no-bytes none z) at y in
+        let l = step-left g t (drop at s) not-over in
+        let k = h .fuelled in
+        let m = h .few in
+        let rest = actsOf (trace g (h .fuel - 1) (step g t (drop at s) .state) (step g t (drop at s) .rest) .items) in
+        let u : plain g s ≡ (h .written ++ bytes) ++ putAll rest [] =
+        h .all ∙ rw (trace-more g t (drop at s) (h .fuel) (omega arith) not-over, putAll-append (step g t (drop at s) .done .acts) rest [], item-acts (putAll rest [])) (sym (append-assoc (h .written) bytes (putAll rest []))) in
+        rw (done .state) (record {
+          written = h .written ++ bytes;
+          fuel = h .fuel - 1;
+          all = rw (done .left) u;
+          fuelled = rw (done .left) (omega arith);
+          puts = puts-both (h .written) bytes (h .puts) (q .puts);
+          few = rw (done .left) (omega (arith, q .small));
+          inside = done .inside;
+          shaped = step-shaped g (fit .wide) t (drop at s) (h .shaped) not-over;
+          sound = step-sound g fit t (drop at s) not-over (h .shaped) (h .sound);
+        })

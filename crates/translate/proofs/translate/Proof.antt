@@ -1,0 +1,89 @@
+-- `translate::translate` meets its contract. Assumes nothing.
+use mathlib.Core.Path.{refl}
+use Rattle.run.proofs.Answers.{fits}
+use Rattle.translate.proofs.Answers.{no-measure, no-stream, no-room, too-many, carried}
+use native.Mathlib.Omega.{arith}
+use borrow.Author.Needs.{needs}
+use Rattle.translate.proofs.translate.Statement.{statement}
+use Rattle.translate.proofs.translate.Tie as tie
+
+allowed-requires : tie.Need-allowed-requires
+allowed-requires c κs = search needs
+
+refuse-requires : tie.Need-refuse-requires
+refuse-requires c κs = search needs
+
+returns : tie.Need-returns
+returns c = no-measure _ _ _ _ _ _ (c .before .before .allowed .ensures) (c .before .if1 .taken) (c .refuse .ensures)
+
+refuse-requires-2 : tie.Need-refuse-requires-2
+refuse-requires-2 c κs = search needs
+
+returns-2 : tie.Need-returns-2
+returns-2 c = no-stream _ _ _ _ _ _ (c .before .before .before .allowed .ensures) (c .before .before .if1 .left) (c .before .if2 .taken) (c .refuse2 .ensures)
+
+measure-of-requires : tie.Need-measure-of-requires
+measure-of-requires c κs = search needs
+
+sub-walk : tie.Need-sub-walk
+sub-walk c = search needs
+
+part-walk-start : tie.Need-part-walk-start
+part-walk-start c = search needs
+
+part-walk-end : tie.Need-part-walk-end
+part-walk-end c = search needs
+
+walk-requires : tie.Need-walk-requires
+walk-requires c κs = (fits _ _ _ (c .before .before .before .before .allowed .ensures) (c .before .before .before .if1 .left) _ (c .before .measure-of .ensures), c .before .before .if2 .left)
+
+refuse-requires-3 : tie.Need-refuse-requires-3
+refuse-requires-3 c κs = search needs
+
+same-length : tie.Need-same-length
+same-length c = search needs
+
+returns-3 : tie.Need-returns-3
+returns-3 c = no-room _ _ _ _ _ _ (c .before .before .before .before .before .before .before .before .before .allowed .ensures) (c .before .before .before .before .before .before .before .before .if1 .left) (c .before .before .before .before .before .before .before .if2 .left) _ (c .before .before .before .before .before .before .measure-of .ensures) _ (c .before .before .before .before .walk .last .1 .1 .0) _ (c .before .before .before .before .walk .ensures) (c .before .before .before .room .given .0) (c .before .if3 .taken) (c .refuse3 .ensures)
+
+refuse-requires-4 : tie.Need-refuse-requires-4
+refuse-requires-4 c κs = search needs
+
+same-length-2 : tie.Need-same-length-2
+same-length-2 c = search needs
+
+returns-4 : tie.Need-returns-4
+returns-4 c = too-many _ _ _ _ _ _ (c .before .before .before .before .before .before .before .before .before .before .allowed .ensures) (c .before .before .before .before .before .before .before .before .before .if1 .left) (c .before .before .before .before .before .before .before .before .if2 .left) _ (c .before .before .before .before .before .before .before .measure-of .ensures) _ (c .before .before .before .before .before .walk .last .1 .1 .0) _ (c .before .before .before .before .before .walk .ensures) (c .before .before .before .before .room .given .0) (c .before .if4 .taken) (c .refuse4 .ensures)
+
+walk-requires-2 : tie.Need-walk-requires-2
+walk-requires-2 c κs = (fits _ _ _ (c .before .before .before .before .before .before .before .before .before .before .allowed .ensures) (c .before .before .before .before .before .before .before .before .before .if1 .left) _ (c .before .before .before .before .before .before .before .measure-of .ensures), c .before .before .before .before .before .before .before .before .if2 .left)
+
+same-length-3 : tie.Need-same-length-3
+same-length-3 c = search needs
+
+returns-5 : tie.Need-returns-5
+returns-5 c = carried _ _ _ _ _ _ (c .before .before .before .before .before .before .before .before .before .before .before .before .before .allowed .ensures) (c .before .before .before .before .before .before .before .before .before .before .before .before .if1 .left) (c .before .before .before .before .before .before .before .before .before .before .before .if2 .left) _ (c .before .before .before .before .before .before .before .before .before .before .measure-of .ensures) _ (c .before .before .before .before .before .before .before .before .walk .last .1 .1 .0) _ (c .before .before .before .before .before .before .before .before .walk .ensures) (c .before .before .before .before .before .before .before .room .given .0) (c .before .before .before .before .before .if3 .left) (c .before .before .before .before .if4 .left) _ _ (c .before .before .walk2 .ensures) refl
+
+pub translate-spec : {M : Type 1} → statement M
+translate-spec =
+    tie.close
+    (tie.spec
+    allowed-requires
+    refuse-requires
+    returns
+    refuse-requires-2
+    returns-2
+    measure-of-requires
+    sub-walk
+    part-walk-start
+    part-walk-end
+    walk-requires
+    refuse-requires-3
+    same-length
+    returns-3
+    refuse-requires-4
+    same-length-2
+    returns-4
+    walk-requires-2
+    same-length-3
+    returns-5)
