@@ -1,8 +1,8 @@
--- `plainly::head_length` meets its contract. Assumes nothing.
+-- `heads::head_length` meets its contract. Assumes nothing.
 use borrow.Author.Needs.{needs}
-use Rattle.plainly.proofs.Writing.{head-counted}
-use Rattle.plainly.proofs.head_length.Tie as tie
-use Rattle.plainly.proofs.head_length.Statement.{statement}
+use Rattle.heads.proofs.Heads.{head-counted}
+use Rattle.heads.proofs.head_length.Tie as tie
+use Rattle.heads.proofs.head_length.Statement.{statement}
 
 decimal-length-requires : tie.Need-decimal-length-requires
 decimal-length-requires c κs = search needs

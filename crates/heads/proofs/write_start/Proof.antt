@@ -1,8 +1,8 @@
--- `plainly::write_start` meets its contract. Assumes nothing.
+-- `heads::write_start` meets its contract. Assumes nothing.
 use borrow.Author.Needs.{needs}
-use Rattle.plainly.proofs.Writing.{wrote-three}
-use Rattle.plainly.proofs.write_start.Tie as tie
-use Rattle.plainly.proofs.write_start.Statement.{statement}
+use Rattle.heads.proofs.Heads.{wrote-three}
+use Rattle.heads.proofs.write_start.Tie as tie
+use Rattle.heads.proofs.write_start.Statement.{statement}
 
 put-byte-requires : tie.Need-put-byte-requires
 put-byte-requires c κs = search needs

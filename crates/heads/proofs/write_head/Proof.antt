@@ -1,8 +1,8 @@
--- `plainly::write_head` meets its contract. Assumes nothing.
+-- `heads::write_head` meets its contract. Assumes nothing.
 use borrow.Author.Needs.{needs}
-use Rattle.plainly.proofs.Writing.{wrote-head}
-use Rattle.plainly.proofs.write_head.Tie as tie
-use Rattle.plainly.proofs.write_head.Statement.{statement}
+use Rattle.heads.proofs.Heads.{wrote-head}
+use Rattle.heads.proofs.write_head.Tie as tie
+use Rattle.heads.proofs.write_head.Statement.{statement}
 
 write-start-requires : tie.Need-write-start-requires
 write-start-requires c κs = search needs
