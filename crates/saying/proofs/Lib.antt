@@ -1,0 +1,2 @@
+-- The laws of what the program `plain` says.
+pub mod Spoken

@@ -1,0 +1,2 @@
+-- The laws of words read as numbers.
+pub mod Digits
