@@ -3,13 +3,9 @@
  * that goes on where the last ended, so that both draw the same pages. Before they are timed, both sides are run stop by stop, and
  * every number, state and page must be the same. */
 #include "side.h"
-#include <stdio.h>
-#include <stdlib.h>
-#include <string.h>
-#include <time.h>
+#include "timed.h"
 
-enum { W = 4800, H = 6800, PAGE = W / 8 * H, MOST = 1048576, TURNS = 25, PARTS = 16 };
-static const double LONG_ENOUGH = 1.5; /* seconds of turns, so that short ones have many */
+enum { W = 4800, H = 6800, PAGE = W / 8 * H };
 
 typedef uint32_t (*run_function)(size_t, size_t, uint8_t *, size_t, const uint8_t *, size_t, uint8_t *, size_t, size_t,
                                  size_t *, size_t *, size_t *, size_t *);
@@ -23,17 +19,10 @@ struct side {
     double whole, parts; /* the least times */
 };
 
-static uint8_t proved_page[PAGE], plain_page[PAGE], stream[MOST + 1];
+static uint8_t proved_page[PAGE], plain_page[PAGE];
 static const size_t all[2] = {0, MOST};
 static size_t cuts[PARTS + 1]; /* where the parts begin and end: between items */
 static struct side proved = {.run = rov_run, .page = proved_page}, plain = {.run = plain_run, .page = plain_page};
-
-/* The processor's time of this process alone, as others may work beside it. */
-static double now(void) {
-    struct timespec t;
-    clock_gettime(CLOCK_PROCESS_CPUTIME_ID, &t);
-    return (double)t.tv_sec + (double)t.tv_nsec * 1e-9;
-}
 
 /* The page is used at the start, so that zeroing it does not hide the reading. */
 static void start(struct side *s) {
@@ -72,10 +61,6 @@ static void find_cuts(void) {
     cuts[PARTS] = MOST;
 }
 
-static void lower(double *least, double t) {
-    if (*least == 0 || t < *least) *least = t;
-}
-
 static int same_numbers(void) {
     return proved.code == plain.code && proved.place == plain.place && proved.done == plain.done && proved.found == plain.found &&
            proved.ended == plain.ended && memcmp(proved.state, plain.state, ROV_STATE) == 0;
@@ -95,17 +80,10 @@ static int both_do_the_same(void) {
     return proved.place == MOST;
 }
 
-static size_t read_stream(const char *name) {
-    FILE *in = fopen(name, "rb");
-    size_t n = in ? fread(stream, 1, sizeof stream, in) : 0;
-    if (in) fclose(in);
-    return n;
-}
-
 static void time_both(void) {
     double began = now();
     proved.whole = proved.parts = plain.whole = plain.parts = 0;
-    for (int turn = 0; turn < TURNS || now() - began < LONG_ENOUGH; turn++) {
+    for (int turn = 0; more_turns(turn, began); turn++) {
         lower(&proved.whole, time_of(&proved, all, 1));
         lower(&plain.whole, time_of(&plain, all, 1));
         lower(&proved.parts, time_of(&proved, cuts, PARTS));
@@ -114,10 +92,7 @@ static void time_both(void) {
 }
 
 static int measure(const char *file, const char *name) {
-    if (read_stream(file) != MOST) {
-        fprintf(stderr, "door: %s has not %d bytes\n", file, MOST);
-        return 1;
-    }
+    if (!read_stream(file)) return 1;
     if (!both_do_the_same()) {
         fprintf(stderr, "door: %s: DIFFERENT RESULTS\n", name);
         return 1;
@@ -134,9 +109,5 @@ static int measure(const char *file, const char *name) {
 }
 
 int main(int words, char **word) {
-    int failed = words < 3 || words % 2 == 0;
-    if (failed) fputs("usage: door FILE NAME [FILE NAME ..]\n", stderr);
-    else puts("| Stream of 1 MB | Ratio | Growth, proved | Growth, plain C |\n|---|---|---|---|");
-    for (int i = 1; i + 1 < words && !failed; i += 2) failed = measure(word[i], word[i + 1]);
-    return failed;
+    return each_stream(words, word, "| Stream of 1 MB | Ratio | Growth, proved | Growth, plain C |\n|---|---|---|---|", measure);
 }

@@ -19,7 +19,7 @@ _Static_assert(sizeof(struct state) == ROV_SEED && offsetof(struct state, stack)
 
 struct reader {
     struct state st;
-    uint8_t *seed, *page;
+    uint8_t *seed, *page; /* no page in a translation */
     const uint8_t *stream;
     size_t n, at, wide, high;
     uint32_t lw, lh; /* logical width and height */
@@ -29,6 +29,14 @@ struct reader {
 struct value {
     bool relative, negative;
     uint32_t size; /* in ten-thousandths */
+};
+
+/* A command as it was sent. The key of a two-byte command is its byte; that of a sequence has the first byte and the group too. */
+struct sent {
+    uint32_t key;
+    struct value v;
+    const uint8_t *payload;
+    size_t count;
 };
 
 static uint32_t least(uint64_t a, uint32_t b) { return a < b ? (uint32_t)a : b; }
@@ -282,7 +290,7 @@ static uint32_t row(struct reader *r, struct value v, const uint8_t *payload, si
     if (whole_negative(v)) return 4;
     if (!s->started) start_raster(r, 0);
     came_whole = plain_decode(s->method, payload, count, r->seed, r->wide);
-    plain_paint(r->page, r->wide * r->high, r->wide, r->seed, r->wide, 300 / s->resolution, s->margin / DOT, s->y / DOT);
+    if (r->page) plain_paint(r->page, r->wide * r->high, r->wide, r->seed, r->wide, 300 / s->resolution, s->margin / DOT, s->y / DOT);
     s->x = s->margin;
     s->y = least((uint64_t)s->y + INCH / s->resolution, r->lh);
     s->used = 1;
@@ -291,9 +299,11 @@ static uint32_t row(struct reader *r, struct value v, const uint8_t *payload, si
 
 #define KEY(first, group, letter) ((uint32_t)(first) << 16 | (uint32_t)(group) << 8 | (uint32_t)(letter))
 
-static uint32_t command(struct reader *r, uint32_t key, struct value v, const uint8_t *payload, size_t count) {
+static uint32_t command(struct reader *r, const struct sent *c) {
     struct state *s = &r->st;
-    switch (key) {
+    struct value v = c->v;
+    if (c->key < 256) return two_bytes(r, (uint8_t)c->key);
+    switch (c->key) {
     case KEY('&', 'a', 'C'): return go_x(r, v, s->hmi);
     case KEY('&', 'a', 'H'): return go_x(r, v, 10);
     case KEY('*', 'p', 'X'): return go_x(r, v, DOT);
@@ -308,19 +318,19 @@ static uint32_t command(struct reader *r, uint32_t key, struct value v, const ui
     case KEY('&', 'k', 'H'): return column_width(r, v);
     case KEY('&', 'k', 'G'): return termination(r, v);
     case KEY('&', 'f', 'S'): return stacked(r, v);
-    case KEY('&', 'p', 'X'): return transparent(r, v, payload, count);
+    case KEY('&', 'p', 'X'): return transparent(r, v, c->payload, c->count);
     case KEY('*', 't', 'R'): return resolution(r, v);
     case KEY('*', 'r', 'A'): return raster_start(r, v);
     case KEY('*', 'r', 'B'): s->started = 0; return 0;
     case KEY('*', 'r', 'C'): return raster_reset(r);
     case KEY('*', 'b', 'M'): return row_method(r, v);
     case KEY('*', 'b', 'Y'): return rows_down(r, v);
-    case KEY('*', 'b', 'W'): return row(r, v, payload, count);
+    case KEY('*', 'b', 'W'): return row(r, v, c->payload, c->count);
     default: return 3;
     }
 }
 
-/* ---- items */
+/* ---- items: inline, as the run and the translator both go through them */
 static bool is_digit(const struct reader *r) { return r->at < r->n && r->stream[r->at] >= '0' && r->stream[r->at] <= '9'; }
 
 static struct value read_value(struct reader *r) {
@@ -345,57 +355,175 @@ static uint32_t broken(struct reader *r, uint32_t finding) {
     return finding;
 }
 
-/* The rest of a sequence, from its value on; group 0 if it has none. */
-static uint32_t sequence(struct reader *r, uint8_t first, uint8_t group) {
-    struct value v = read_value(r);
-    const uint8_t *payload;
-    size_t count = 0;
+/* The rest of a sequence, from its value on; group 0 if it has none. Gives its finding, 1 or 2, or 0: the command is read. */
+static inline uint32_t read_sequence(struct reader *r, uint8_t first, uint8_t group, struct sent *c) {
     uint8_t letter;
     bool small;
-    uint32_t key;
+    c->v = read_value(r);
     if (r->at == r->n) return broken(r, 1);
     letter = r->stream[r->at];
     small = letter >= 96;
     if (letter < 64 || letter == 95 || letter > 126 || (small && !group)) return broken(r, 2);
-    key = KEY(first, group, small ? letter - 32 : letter);
-    payload = r->stream + ++r->at;
-    if ((key & 255) == 'W' || key == KEY('&', 'p', 'X') || key == KEY('*', 'b', 'V')) {
-        if (!v.negative) count = whole(v);
-        if (count > r->n - r->at) return broken(r, 1);
-        r->at += count;
+    c->key = KEY(first, group, small ? letter - 32 : letter);
+    c->payload = r->stream + ++r->at;
+    c->count = 0;
+    if ((c->key & 255) == 'W' || c->key == KEY('&', 'p', 'X') || c->key == KEY('*', 'b', 'V')) {
+        if (!c->v.negative) c->count = whole(c->v);
+        if (c->count > r->n - r->at) return broken(r, 1);
+        r->at += c->count;
     }
     r->st.first = small ? first : 0;
     r->st.group = small ? group : 0;
-    return command(r, key, v, payload, count);
+    return 0;
 }
 
-static uint32_t escape(struct reader *r) {
+static inline uint32_t read_escape(struct reader *r, struct sent *c) {
     uint8_t byte, group = 0;
     if (++r->at == r->n) return broken(r, 1);
     byte = r->stream[r->at];
     if (byte < 33 || byte > 126) return broken(r, 2);
     r->at++;
-    if (byte >= 48) return two_bytes(r, byte);
+    if (byte >= 48) {
+        c->key = byte;
+        return 0;
+    }
     if (r->at < r->n && r->stream[r->at] >= 96 && r->stream[r->at] <= 126) group = r->stream[r->at++];
-    return sequence(r, byte, group);
+    return read_sequence(r, byte, group, c);
 }
 
-static uint32_t item(struct reader *r) {
-    uint8_t byte;
-    if (r->st.first) return sequence(r, r->st.first, r->st.group);
-    byte = r->stream[r->at];
-    if (byte == ESC) return escape(r);
-    r->at++;
+static bool has_item(const struct reader *r) { return r->at < r->n || r->st.first; }
+static bool at_command(const struct reader *r) { return r->st.first || r->stream[r->at] == ESC; }
+
+static inline uint32_t do_command(struct reader *r, struct sent *c) {
+    uint32_t finding = r->st.first ? read_sequence(r, r->st.first, r->st.group, c) : read_escape(r, c);
+    return finding ? finding : command(r, c);
+}
+
+static inline void do_byte(struct reader *r) {
+    uint8_t byte = r->stream[r->at++];
     if (byte < 32 || byte == 127) {
         control(r, byte);
     } else {
         type(r);
         if (byte != ' ') r->st.used = 1;
     }
+}
+
+static inline uint32_t item(struct reader *r) {
+    struct sent c;
+    if (at_command(r)) return do_command(r, &c);
+    do_byte(r);
     return 0;
 }
 
-static bool has_item(const struct reader *r) { return r->at < r->n || r->st.first; }
+/* ---- the plain stream */
+struct out { /* the bytes are NULL where they are only counted */
+    uint8_t *bytes;
+    size_t n, at;
+};
+
+static void put(struct out *o, uint8_t byte) {
+    if (o->bytes && o->at < o->n) o->bytes[o->at] = byte;
+    o->at++;
+}
+
+static void put_all(struct out *o, const uint8_t *from, size_t n) {
+    if (o->bytes && o->at + n <= o->n) memcpy(o->bytes + o->at, from, n);
+    o->at += n;
+}
+
+static void put_decimal(struct out *o, uint32_t n) {
+    uint8_t digits[10];
+    size_t at = sizeof digits;
+    do digits[--at] = (uint8_t)('0' + n % 10);
+    while (n /= 10);
+    put_all(o, digits + at, sizeof digits - at);
+}
+
+static void put_size(struct out *o, uint32_t size) {
+    uint32_t part = size % 10000;
+    put_decimal(o, size / 10000);
+    if (part) put(o, '.');
+    for (uint32_t scale = 1000; part; scale /= 10) {
+        put(o, (uint8_t)('0' + part / scale));
+        part %= scale;
+    }
+}
+
+static void put_position(struct out *o, struct value v) {
+    if (v.relative) put(o, v.negative && v.size ? '-' : '+');
+    put_size(o, v.size);
+}
+
+static void put_start(struct out *o, uint32_t key) {
+    put(o, ESC);
+    put(o, (uint8_t)(key >> 16));
+    put(o, (uint8_t)(key >> 8));
+}
+
+static void put_counted(struct out *o, uint32_t key, const uint8_t *payload, size_t n) {
+    put_start(o, key);
+    put_decimal(o, (uint32_t)n);
+    put(o, (uint8_t)key);
+    put_all(o, payload, n);
+}
+
+static void put_row(struct out *o, uint32_t key, const uint8_t *row, size_t n) {
+    while (n > 0 && !row[n - 1]) n--;
+    put_counted(o, key, row, n);
+}
+
+static void put_valued(struct out *o, uint32_t key, struct value v) {
+    put_start(o, key);
+    switch (key) {
+    case KEY('&', 'a', 'C'): case KEY('&', 'a', 'H'): case KEY('*', 'p', 'X'):
+    case KEY('&', 'a', 'V'): case KEY('*', 'p', 'Y'): case KEY('&', 'a', 'R'): put_position(o, v); break;
+    case KEY('&', 'l', 'C'): case KEY('&', 'k', 'H'): put_size(o, v.size); break;
+    case KEY('*', 'r', 'B'): case KEY('*', 'r', 'C'): break;
+    default: put_decimal(o, whole(v)); break;
+    }
+    put(o, (uint8_t)key);
+}
+
+/* A command that was done: a row is the seed row now. */
+static void put_command(struct out *o, const struct reader *r, const struct sent *c) {
+    switch (c->key) {
+    case '9': case '=': case 'E':
+        put(o, ESC);
+        put(o, (uint8_t)c->key);
+        break;
+    case KEY('*', 'b', 'M'): break;
+    case KEY('*', 'b', 'W'): put_row(o, c->key, r->seed, r->wide); break;
+    case KEY('&', 'p', 'X'): put_counted(o, c->key, c->payload, c->count); break;
+    default: put_valued(o, c->key, c->v); break;
+    }
+}
+
+static bool is_ignored(uint8_t byte) { return byte == 127 || (byte < 32 && (byte < '\b' || byte > '\r' || byte == '\v')); }
+
+static void translate_item(struct reader *r, struct out *o) {
+    struct sent c;
+    uint32_t finding;
+    uint8_t byte;
+    if (at_command(r)) {
+        finding = do_command(r, &c);
+        if (finding == 0 || finding == 7) put_command(o, r, &c);
+        return;
+    }
+    byte = r->stream[r->at];
+    do_byte(r);
+    if (!is_ignored(byte)) put(o, byte);
+}
+
+/* One pass. Gives the length of the plain stream; where it is more than `most`, some length that is more too. */
+static size_t translated(size_t W, size_t H, const uint8_t *stream, size_t n, uint8_t *room, size_t most) {
+    uint8_t seed[SEED_ROW];
+    struct reader r = {.seed = seed, .stream = stream, .n = n, .wide = W / 8, .high = H, .lw = (uint32_t)W * DOT, .lh = (uint32_t)H * DOT};
+    struct out o = {room, most, 0};
+    make_afresh(&r);
+    while (has_item(&r) && o.at <= most) translate_item(&r, &o);
+    return o.at;
+}
 
 /* ---- the calls */
 uint32_t plain_afresh(size_t W, size_t H, uint8_t *state, size_t n) {
@@ -460,4 +588,32 @@ uint32_t plain_run(size_t W, size_t H, uint8_t *page, size_t page_n, const uint8
     *done = count;
     *ended = (size_t)r.ended;
     return finding;
+}
+
+static uint32_t translation_refusal(size_t W, size_t H, size_t stream_n) {
+    if (!measured(W, H)) return 10;
+    return stream_n > LONGEST ? 12 : 0;
+}
+
+/* A refused room is untouched, and there is no other room: so the first pass only counts. */
+uint32_t plain_translate(size_t W, size_t H, const uint8_t *stream, size_t stream_n, uint8_t *room, size_t room_n, size_t *length) {
+    size_t count, most = room_n < LONGEST ? room_n : LONGEST;
+    uint32_t refused = translation_refusal(W, H, stream_n);
+    *length = 0;
+    if (refused) return refused;
+    count = translated(W, H, stream, stream_n, NULL, most);
+    if (count > most) return 15;
+    *length = translated(W, H, stream, stream_n, room, count);
+    return 0;
+}
+
+uint32_t plain_translate_once(size_t W, size_t H, const uint8_t *stream, size_t stream_n, uint8_t *room, size_t room_n, size_t *length) {
+    size_t count, most = room_n < LONGEST ? room_n : LONGEST;
+    uint32_t refused = translation_refusal(W, H, stream_n);
+    *length = 0;
+    if (refused) return refused;
+    count = translated(W, H, stream, stream_n, room, most);
+    if (count > most) return 15;
+    *length = count;
+    return 0;
 }

@@ -8,5 +8,6 @@
 #define rov_sound plain_sound
 #define rov_dots plain_dots
 #define rov_run plain_run
+#define rov_translate plain_translate
 #endif
 #endif

@@ -1,6 +1,6 @@
-/* The stack that one rov_run uses: each stream is run on a stack filled with a pattern, and the lowest word that was changed tells how
- * deep the call went. Prints the depth for each kind of item and the deepest, in bytes. The call's own arguments and return address are
- * counted; what an empty function needs on the same stack is not. */
+/* The stack that one rov_run and one rov_translate use: each stream is run, and translated, on a stack filled with a pattern, and the lowest
+ * word that was changed tells how deep the call went. Prints both depths for each kind of item and the deepest, in bytes. The call's own
+ * arguments and return address are counted; what an empty function needs on the same stack is not. */
 #include "side.h"
 #include <stdio.h>
 #include <stdlib.h>
@@ -11,12 +11,12 @@ enum { W = 4800, H = 6800, PAGE = W / 8 * H, WORDS = 1 << 17 };
 
 static const uint64_t pattern = 0xA5C3F00D5EEDBEEFu;
 static uint64_t words[WORDS];
-static uint8_t page[PAGE], state[ROV_STATE];
+static uint8_t page[PAGE], state[ROV_STATE], room[4096];
 static ucontext_t caller, callee;
 
 /* What the call on the other stack works on; it takes no arguments of its own, and has nothing on that stack. */
 static const uint8_t *stream;
-static size_t stream_n, page_n = PAGE, place, done, found, ended, items;
+static size_t stream_n, page_n = PAGE, room_n = sizeof room, place, done, found, ended, items, length;
 static uint32_t code, stopped; /* the last number, and the last that was not 0 */
 
 static void nothing(void) {}
@@ -29,6 +29,8 @@ static void whole_run(void) {
         items += done;
     } while (code < 10 && (code || ended));
 }
+
+static void translation(void) { code = rov_translate(W, H, stream, stream_n, room, room_n, &length); }
 
 static size_t depth_of(void (*function)(void)) {
     size_t low = 0;
@@ -92,27 +94,35 @@ static void must(int holds, const char *what) {
     exit(1);
 }
 
-static size_t measured(const struct kind *k) {
-    size_t depth;
+struct depths {
+    size_t run, translation;
+};
+
+static struct depths measured(const struct kind *k) {
+    size_t none = depth_of(nothing);
+    struct depths d;
     must(rov_afresh(W, H, state, ROV_STATE) == 0, "afresh");
     stream = (const uint8_t *)k->bytes;
     stream_n = k->n;
     place = items = stopped = 0;
-    depth = depth_of(whole_run) - depth_of(nothing);
+    d.run = depth_of(whole_run) - none;
     must(stopped == k->finding && (items > 0) == (stream_n > 0 && stopped < 10), k->name);
-    printf("%-30s %6zu\n", k->name, depth);
-    return depth;
+    d.translation = depth_of(translation) - none;
+    must(code == (room_n ? 0 : 15), k->name);
+    printf("%-34s %6zu %6zu\n", k->name, d.run, d.translation);
+    return d;
 }
 
 int main(void) {
-    static const struct kind refused = {"a page buffer that is too short", S("a"), 11};
-    size_t deepest = 0, depth;
+    static const struct kind refused = {"a page or a room that is too short", S("a"), 11};
+    struct depths deepest = {0, 0}, d;
     for (size_t i = 0; i <= sizeof kinds / sizeof kinds[0]; i++) {
         int last = i == sizeof kinds / sizeof kinds[0];
-        if (last) page_n = 0;
-        depth = measured(last ? &refused : &kinds[i]);
-        if (depth > deepest) deepest = depth;
+        if (last) page_n = room_n = 0;
+        d = measured(last ? &refused : &kinds[i]);
+        if (d.run > deepest.run) deepest.run = d.run;
+        if (d.translation > deepest.translation) deepest.translation = d.translation;
     }
-    printf("stack: the deepest run used %zu bytes\n", deepest);
+    printf("stack: the deepest run used %zu bytes, the deepest translation %zu\n", deepest.run, deepest.translation);
     return 0;
 }

@@ -1,5 +1,5 @@
-/* Rovinuset for C: reading PCL, drawing pages. The archive of the crate `door`. A slice is a pointer and a length; it may be
- * empty, its pointer is then not read. Slices and numbers that are lent must not overlap. */
+/* Rovinuset for C: reading PCL, drawing pages, passing a job on as a plain stream. The archive of the crate `door`. A slice is a pointer
+ * and a length; it may be empty, its pointer is then not read. Slices and numbers that are lent must not overlap. */
 #ifndef ROVINUSET_H
 #define ROVINUSET_H
 #include <stdbool.h>
@@ -45,5 +45,11 @@ size_t rov_dots(size_t W, size_t H, const uint8_t *page, size_t n);
  * Refused: page, state and *place are as they were; *done, *found and *ended are 0. */
 uint32_t rov_run(size_t W, size_t H, uint8_t *page, size_t page_n, const uint8_t *stream, size_t stream_n,
                  uint8_t *state, size_t state_n, size_t allowance, size_t *place, size_t *done, size_t *found, size_t *ended);
+
+/* The plain stream of a stream, written to the room; no page and no state is needed. Run by rov_run, it has the same pages as the stream,
+ * no finding, and the same end state but for the row method, which is 0.
+ * Gives 0: the first *length bytes of the room are the plain stream, the rest of it is untouched. Or the refusal: 10, 12, or 15 (the
+ * plain stream is longer than room_n, or than 1,048,576 bytes): the room is untouched, *length is 0. */
+uint32_t rov_translate(size_t W, size_t H, const uint8_t *stream, size_t stream_n, uint8_t *room, size_t room_n, size_t *length);
 
 #endif

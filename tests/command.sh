@@ -1,6 +1,6 @@
 #!/usr/bin/env bash
-# The one command, as a user gives it: reports that are right, and words that are wrong. A line for each failed check, then the
-# count. Exit status 1 on a failure.
+# The one command, as a user gives it: reports and plain streams that are right, and words that are wrong. A line for each failed check,
+# then the count. Exit status 1 on a failure.
 set -eu
 cd "$(dirname "$0")/.."
 export LC_ALL=C
@@ -33,6 +33,16 @@ refuses() {
   fi
 }
 
+# refused NUMBER: status 2, nothing on standard output, and one line that says the refusal.
+refused() {
+  checks=$((checks + 1))
+  printf 'REFUSED\t%s\n' "$1" >refusal
+  if [ "$status" -ne 2 ] || [ -s printed ] || ! cmp -s refusal errors; then
+    failed=$((failed + 1))
+    echo "command: $said: status $status, or it is not refused with $1"
+  fi
+}
+
 printf '\33&f1S\33*t300R\33*b2W\377\200\f' >paper.pcl
 printf 'SIZE\t640\t800\nFAULT\t0\t5\nPAGE\t1\t9\nEND\t0\t4500\t0\t1\n' >paper.txt
 call report paper.pcl
@@ -55,7 +65,63 @@ for job in gm-curve-150 hp2xx-75 groff-lj4-letter; do
   gives 0 wanted
 done
 
+printf '\33&a10c5R' >combined.pcl
+printf '\33&a10C\33&a5R' >combined.txt
+call plain combined.pcl
+gives 0 combined.txt
+call plain <combined.pcl
+gives 0 combined.txt
+call plain 640 800 combined.pcl
+gives 0 combined.txt
+call plain 8 1 <combined.pcl
+gives 0 combined.txt
+call plain 0000000000000000000000000008 01 combined.pcl
+gives 0 combined.txt
+call plain empty
+gives 0 empty
+call plain <&-
+gives 0 empty
+printf '\33*b3W\001\002\003' >wide.pcl
+printf '\33*b2W\001\002' >narrow.txt
+call plain 16 9 wide.pcl
+gives 0 narrow.txt
+head -c 1048576 /dev/zero | tr '\0' A >longest
+call plain longest
+gives 0 longest
+printf A | cat longest - >longer
+call plain longer
+refused 12
+call plain 7 800 longer
+refused 10
+call plain 640 6801 <empty
+refused 10
+call plain 99999999999999999999999999999999999999 800 combined.pcl
+refused 10
+call plain 0 0 combined.pcl
+refused 10
+yes "$(printf '\33&acccC')" | tr -d '\n' | head -c 700000 >growing # each of its four commands is written as five bytes
+call plain growing
+refused 15
+checks=$((checks + 1))
+python3 "$corpus/../../plains.py" "$corpus" "$command" plain || failed=$((failed + 1))
+
 mkdir folder
+call plain nowhere
+refuses "no such file: nowhere"
+call plain 640 800 folder
+refuses "a directory, not a job: folder"
+call plain <folder
+refuses "a directory, not a job: standard input"
+call plain 640 combined.pcl
+refuses "not a number of dots: combined.pcl"
+call plain -640 800 combined.pcl
+refuses "not a number of dots: -640"
+call plain 640 "" combined.pcl
+refuses "not a number of dots: "
+call plain 640 800 combined.pcl combined.pcl
+refuses "plain takes the page's width and height"
+call report <folder
+refuses "a directory, not a job: standard input"
 call report nowhere
 refuses "no such file: nowhere"
 call report folder
@@ -68,6 +134,8 @@ if [ "$(id -u)" != 0 ]; then # root may read everything
   : >shut
   chmod 0 shut
   call report shut
+  refuses "no permission to read: shut"
+  call plain shut
   refuses "no permission to read: shut"
 fi
 

@@ -1,19 +1,15 @@
-/* Runs a file of R cases through the door: doorcases FILE ('-': standard input). The formats are in second/README.md, mode `cases`;
- * what comes out must be what the second program says, line for line. Each case is run a second time in pieces, and the other calls
- * are held against the run; where something is amiss, the case's line says what instead of its result.
+/* Runs a file of R cases through the door: doorcases CASES MET. The formats are in second/README.md, mode `cases`; what comes out must be
+ * what the second program says, line for line. Each case is run a second time in pieces, and the other calls are held against the run;
+ * where something is amiss, the case's line says what instead of its result. MET is written: how often each outcome came up.
  * With -DPLAIN the plain C reader of bench/ stands in for the proved archive. */
-#include "../bench/side.h"
-#include <stdio.h>
-#include <stdlib.h>
-#include <string.h>
+#include "cases.h"
 
-enum { MOST_PAGE = 8000000, MOST_STREAM = 1 << 21, GUARD = 64, GUARD_BYTE = 0x5A, JUNK = 77, STACK = 20, SEED_ROW = 600 };
+enum { MOST_PAGE = 8000000, STACK = 20, SEED_ROW = 600 };
 
-/* Lent bytes with guard bytes before and behind them. */
-struct lent {
-    uint8_t *bytes;
-    size_t n;
-};
+enum { PAGE_ENDED = 8, REFUSED = 9 }; /* the findings come first; 10 is the first refusal */
+static const char *const outcomes[] = {
+    "no finding", "finding 1", "finding 2", "finding 3", "finding 4", "finding 5", "finding 6", "finding 7", "page ended",
+    "refused 10", "refused 11", "refused 12", "refused 13", "refused 14"};
 
 struct case_line {
     size_t wide, high, place, allowance;
@@ -35,68 +31,9 @@ struct numbers {
     uint32_t code;
 };
 
-static struct lent page, pieces_page, state, pieces_state, stream, stream_copy;
-static size_t number; /* of the case */
-static const char *amiss; /* the first thing that is wrong with it */
-
-static void blame(const char *what) {
-    if (!amiss) amiss = what;
-}
-
-static void bad(void) {
-    fflush(stdout);
-    fprintf(stderr, "doorcases: line %zu is not of the form\n", number);
-    exit(1);
-}
-
-/* ---- lent bytes */
-static void make(struct lent *l, size_t most) {
-    uint8_t *room = malloc(most + 2 * GUARD);
-    if (!room) {
-        fputs("doorcases: no memory\n", stderr);
-        exit(1);
-    }
-    memset(room, GUARD_BYTE, GUARD);
-    l->bytes = room + GUARD;
-    l->n = 0;
-}
-
-static void set_length(struct lent *l, size_t n) {
-    l->n = n;
-    memset(l->bytes + n, GUARD_BYTE, GUARD);
-}
-
-static void check_guards(const struct lent *l, const char *what) {
-    for (size_t i = 0; i < GUARD; i++)
-        if (l->bytes[l->n + i] != GUARD_BYTE || *(l->bytes - 1 - i) != GUARD_BYTE) blame(what);
-}
+static struct lent page, pieces_page, state, pieces_state;
 
 /* ---- reading a case */
-static int digit(char c) {
-    if (c >= '0' && c <= '9') return c - '0';
-    if (c >= 'A' && c <= 'F') return c - 'A' + 10;
-    if (c >= 'a' && c <= 'f') return c - 'a' + 10;
-    return -1;
-}
-
-static size_t hex_of(const char *word, uint8_t *out, size_t most) {
-    size_t n = 0;
-    if (strcmp(word, "-") == 0) return 0;
-    for (; word[0]; word += 2) {
-        int high = digit(word[0]), low = word[1] ? digit(word[1]) : -1;
-        if (high < 0 || low < 0 || n == most) bad();
-        out[n++] = (uint8_t)(high * 16 + low);
-    }
-    return n;
-}
-
-static uint64_t number_of(const char *word) {
-    char *end;
-    uint64_t n = strtoull(word, &end, 10);
-    if (end == word || *end) bad();
-    return n;
-}
-
 static void put(uint8_t *s, size_t at, size_t bytes, uint64_t n) {
     for (size_t i = 0; i < bytes; i++, n >>= 8) s[at + i] = (uint8_t)n;
     if (n) bad();
@@ -112,15 +49,6 @@ static uint64_t get(const uint8_t *s, size_t at, size_t bytes) {
 static const struct { size_t at, bytes; } members[14] = {
     {ROV_X, 4}, {ROV_Y, 4}, {ROV_LEFT, 4}, {ROV_RIGHT, 4}, {ROV_TOP, 4}, {ROV_HMI, 4}, {ROV_VMI, 4}, {ROV_TERMINATION, 1},
     {ROV_RESOLUTION, 2}, {ROV_METHOD, 1}, {ROV_STARTED, 1}, {ROV_MARGIN, 4}, {ROV_USED, 1}, {ROV_DEPTH, 8}};
-
-static char *split(char **rest, char mark) {
-    char *word = *rest, *end;
-    if (!word) bad();
-    end = strchr(word, mark);
-    *rest = end ? end + 1 : NULL;
-    if (end) *end = 0;
-    return word;
-}
 
 static void pair_of(char *word, uint8_t *s, size_t at, size_t bytes) {
     put(s, at, bytes, number_of(split(&word, ':')));
@@ -158,29 +86,14 @@ static void afresh_of(size_t wide, size_t high, uint8_t *s) {
     rov_afresh(640, 800, s, ROV_STATE);
 }
 
-static void stream_of(char *word) {
-    bool repeated = word[0] == 'x';
-    size_t n = 0, have;
-    if (repeated) {
-        word++;
-        n = number_of(split(&word, ':'));
-        if (!word || n > MOST_STREAM) bad();
-    }
-    have = hex_of(word, stream.bytes, MOST_STREAM);
-    if (repeated && !have) bad();
-    for (; have < n; have *= 2) memcpy(stream.bytes + have, stream.bytes, have < n - have ? have : n - have);
-    set_length(&stream, repeated ? n : have);
-    memcpy(stream_copy.bytes, stream.bytes, stream.n);
-}
-
 static void read_case(char *line, struct case_line *c) {
-    char *w[9], *rest = line;
-    for (size_t i = 0; i < 9; i++) w[i] = split(&rest, ' ');
-    if (rest || strcmp(w[0], "R") || number_of(w[3]) >= MOST_PAGE) bad();
+    char *w[9];
+    words_of(line, "R", w, 9);
+    if (number_of(w[3]) >= MOST_PAGE) bad();
     c->wide = number_of(w[1]);
     c->high = number_of(w[2]);
     set_length(&page, number_of(w[3]));
-    if (hex_of(w[4], &c->fill, 1) != 1) bad();
+    c->fill = fill_of(w[4]);
     if (strcmp(w[5], "-")) state_of(w[5], c->state);
     else afresh_of(c->wide, c->high, c->state);
     c->place = number_of(w[6]);
@@ -287,7 +200,6 @@ static void write_state(const uint8_t *s) {
 }
 
 static void write_result(const struct case_line *c, const struct numbers *x) {
-    uint64_t hash = 14695981039346656037u;
     size_t dots = rov_dots(c->wide, c->high, page.bytes, page.n);
     bool refused = x->code >= 10;
     if (refused && (x->found || x->ended)) blame("a refused call gave a place or a page");
@@ -296,20 +208,24 @@ static void write_result(const struct case_line *c, const struct numbers *x) {
         printf("%zu %s\n", number, amiss);
         return;
     }
-    for (size_t i = 0; i < page.n; i++) hash = (hash ^ page.bytes[i]) * 1099511628211u;
     if (refused) printf("%zu refused %u %zu %zu", number, x->code, x->done, x->place);
     else printf("%zu ran %zu %zu %u %zu %zu", number, x->done, x->place, x->code, x->found, x->ended);
     write_state(state.bytes);
-    printf(" %016llx", (unsigned long long)hash);
+    printf(" %016llx", (unsigned long long)hash_of(page.bytes, page.n));
     if (refused) putchar('\n');
     else printf(" %zu\n", dots);
+}
+
+static void count(const struct numbers *x) {
+    if (x->code <= 7) met[x->code]++;
+    if (x->code >= 10 && x->code <= 14) met[REFUSED + x->code - 10]++;
+    if (x->ended) met[PAGE_ENDED]++;
 }
 
 static void one_case(char *line) {
     enum { NOW_AND_THEN = 16 };
     static struct case_line c;
     struct numbers once;
-    amiss = NULL;
     read_case(line, &c);
     once = start_at(c.place);
     lend(&c, &page, &state);
@@ -317,31 +233,19 @@ static void one_case(char *line) {
     if (once.code < 10) run_in_pieces(&c, &once);
     check_sound(&c, once.code);
     if (number % NOW_AND_THEN == 0 && (once.code < 10 || once.code >= 13)) try_more(&c);
-    if (memcmp(stream.bytes, stream_copy.bytes, stream.n)) blame("the stream was written");
-    check_guards(&stream, "guards of the stream");
+    check_stream();
     write_result(&c, &once);
+    count(&once);
 }
 
 int main(int words, char **word) {
-    FILE *in = words == 2 && strcmp(word[1], "-") ? fopen(word[1], "r") : stdin;
-    char *line = NULL;
-    size_t room = 0;
-    ssize_t n;
-    if (!in) {
-        perror(word[1]);
+    if (words != 3) {
+        fputs("usage: doorcases CASES MET\n", stderr);
         return 1;
     }
     make(&page, MOST_PAGE);
     make(&pieces_page, MOST_PAGE);
     make(&state, ROV_STATE);
     make(&pieces_state, ROV_STATE);
-    make(&stream, MOST_STREAM);
-    make(&stream_copy, MOST_STREAM);
-    while ((n = getline(&line, &room, in)) > 0) {
-        if (line[n - 1] == '\n') line[n - 1] = 0;
-        number++;
-        one_case(line);
-    }
-    free(line);
-    return ferror(in) || fflush(stdout) ? 1 : 0;
+    return each_line(word[1], one_case) || write_met(word[2], outcomes, sizeof outcomes / sizeof outcomes[0]);
 }

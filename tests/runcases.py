@@ -1,11 +1,12 @@
 #!/usr/bin/env python3
-"""runcases.py COUNT SEED [T]: cases of runs, one to a line.
+"""runcases.py R|T COUNT SEED: cases of runs or of translations, one to a line.
+runcases.py vectors: a translation of each real stream and each of the manuals' and the paper's examples.
 
-The form of the lines is in second/README.md, mode `cases`: `R` lines; with the
-word T also `T` lines, half of them. The streams are made by a grammar of PCL and
-out of pieces of the real streams in tests/vectors; pages, buffers, states, places
-and allowances are random and at the edges. One SEED gives the same lines every
-time; a smaller COUNT gives the first of them.
+The form of the lines is in second/README.md, mode `cases`. The streams are made
+by a grammar of PCL and out of pieces of the real streams in tests/vectors; pages,
+buffers, states, places, allowances and rooms are random and at the edges. One
+letter and SEED give the same lines every time; a smaller COUNT gives the first of
+them.
 """
 
 import lzma
@@ -79,9 +80,10 @@ class Runs(leafcases.Cases):
 
     POOL = 600  # pieces kept; some are made anew for each case, which is faster than all
 
-    def __init__(self, seed):
-        super().__init__("R", seed)
+    def __init__(self, kind, seed):
+        super().__init__(kind, seed)
         self.corpus = corpus_streams()
+        self.jobs = [stream for stream in self.corpus if len(stream) < 65536]
         self.pool = [self.new_piece() for _ in range(self.POOL)]
 
     # ---- pieces of streams
@@ -408,13 +410,13 @@ class Runs(leafcases.Cases):
         piece = self.one_of((b"A", b" ", b"\r\n", b"\x1b&a", b"\x1b*b1W\x80", b"\0")) if self.share() < 0.5 else self.body()
         return f"x{length}:{(piece or b'a').hex()}"
 
-    def faults(self):
+    def faults(self, known):
         """Which refusals the case is to have: mostly none, else one or two."""
         share = self.share()
         if share < 0.86:
             return ()
-        one = self.one_of(FAULTS)
-        return (one,) if share < 0.95 else (one, self.one_of(FAULTS))
+        one = self.one_of(known)
+        return (one,) if share < 0.95 else (one, self.one_of(known))
 
     def start(self):
         """What stands before the run's place: mostly nothing."""
@@ -424,7 +426,7 @@ class Runs(leafcases.Cases):
         return self.one_of(self.pool) if share < 0.95 else self.pieces(3)
 
     def case_r(self):
-        faults = self.faults()
+        faults = self.faults(FAULTS)
         wide, high = self.measure()
         state = None
         if 13 in faults or self.share() < 0.6:
@@ -478,36 +480,108 @@ class Runs(leafcases.Cases):
 
     # ---- translations
 
-    def case_t(self):
-        wide, high = self.measure()
+    def near_longest(self, more):
+        """A stream whose plain stream is so much longer than the longest: one kind of piece that grows, the rest text."""
+        piece, grown = self.one_of(GROWING)
+        text = self.one_of((b"A", b" ", b"\n", b"\xe4", b"\b"))
+        while True:
+            period = self.between(40, 4000)
+            pieces = -(-(LONGEST + more) // (period + grown))
+            length = LONGEST + more - grown * pieces
+            if length - (pieces - 1) * period in range(len(piece), period + 1):
+                return f"x{length}:{piece.ljust(period, text).hex()}"
+
+    def long_case(self, kind):
+        """Streams and plain streams about the longest, on a small page: each kind comes in its turn."""
+        wide, high = 8 * self.between(6, 12), self.between(1, 40)
+        room = self.one_of((LONGEST, LONGEST + 1, 2 * LONGEST))
+        if kind == 0:
+            text = self.near_longest(0)
+        elif kind == 1:
+            text = self.near_longest(self.one_of((1, 1, 2, self.between(3, 99))))
+        elif kind == 2:
+            text = self.long_stream(LONGEST)
+        else:
+            piece = self.one_of((b"\x1b&acC", b"\x1b*b3m3w\x1f\x00\x77" + b"w" * 40 + b"W", b"\x1b*p+x-xY", self.body() or b"a"))
+            text = f"x{LONGEST - self.below(1000)}:{piece.hex()}"
+        return f"T {wide} {high} {room} {self.fill()} {text}"
+
+    def job(self):
+        """A whole stream of the corpus, changed here and there or as it is."""
+        stream = self.one_of(self.jobs)
+        while self.share() < 0.7:
+            stream = self.mutated(stream)
+        return stream
+
+    def translated(self):
         share = self.share()
-        if share < 0.05:
-            wide, high = self.wrong_measure(wide, high)
-        stream = self.pieces(12) if self.share() < 0.7 else self.body()
+        if share < 0.001:
+            return self.job()
+        if share < 0.1:
+            return self.from_corpus() + self.from_corpus()
+        return self.pieces(12) if share < 0.75 else self.body()
+
+    def room(self, length, wide):
+        """Mostly one that is long enough, so that the whole plain stream is compared."""
+        share = self.share()
+        if share < 0.7:
+            return min(length * (wide // 8 + 16), LONGEST + self.below(3))
+        if share < 0.8:
+            return 2 * length + 40
+        return self.one_of((length, length + 1, self.between(0, length), self.between(0, 2 * length)))
+
+    def case_t(self, number):
+        if number % EACH_LONG == 0:
+            return self.long_case(number // EACH_LONG % 4)
+        faults = self.faults(ROOM_FAULTS)
+        wide, high = self.measure()
+        stream = self.translated()
         length, text = len(stream), stream.hex() or "-"
-        if share > 0.99:
-            length = LONGEST + self.one_of((0, 1, 2))
-            text = self.long_stream(length)
-        room = self.one_of((2 * length + 40, 6 * length + 40, length, self.between(0, length), 0))
+        room = self.room(length, wide)
+        if 12 in faults:
+            text = self.long_stream(LONGEST + self.one_of((1, 1, 2, 4000)))
+        if 15 in faults:
+            room = self.one_of((0, 0, self.between(0, length // 4)))
+        if 10 in faults:
+            wide, high = self.wrong_measure(wide, high)
         return f"T {wide} {high} {room} {self.fill()} {text}"
 
 
 UNSOUND = ("x", "y", "margins", "margins", "T", "HMI", "VMI", "bytes", "bytes", "resolution", "gm", "depth", "sequence",
            "stack", "stack", "seed")
 FAULTS = (10, 10, 10, 11, 11, 11, 12, 13, 13, 13, 13, 13, 14, 14, 14)
+ROOM_FAULTS = (10, 10, 10, 12, 15, 15, 15)
+EACH_LONG = 1250  # of so many translations one is about the longest
+# Pieces, and by how much their plain stream is longer, on a page of 48 dots and more.
+GROWING = ((b"\x1b&a1c1C", 3), (b"\x1b*p+1x+1Y", 3), (b"\x1b&a.5c.5H", 5), (b"\x1b*b2m2W\xfb\xff", 2), (b"\x1b&f0s1S", 3))
+
+
+def vectors():
+    """On the pages of the report and of the corpus' table."""
+    for number, stream in enumerate(corpus_streams()):
+        wide, high = ((640, 800), (2552, 3304))[number % 2]
+        yield f"T {wide} {high} {LONGEST} 5a {stream.hex()}"
+
+
+def lines(words):
+    """None if the words are wrong."""
+    if words == ["vectors"]:
+        return vectors()
+    if len(words) != 3 or words[0] not in ("R", "T") or not (words[1].isascii() and words[1].isdigit()):
+        return None
+    kind, count, seed = words
+    cases = Runs(kind, seed)
+    return (cases.case_t(number) if kind == "T" else cases.case_r() for number in range(int(count)))
 
 
 def main(words):
-    if len(words) not in (2, 3) or words[2:] not in ([], ["T"]) or not (words[0].isascii() and words[0].isdigit()):
-        print("usage: runcases.py COUNT SEED [T]", file=sys.stderr)
+    cases = lines(words)
+    if cases is None:
+        print("usage: runcases.py R|T COUNT SEED, or runcases.py vectors", file=sys.stderr)
         return 1
-    count = int(words[0])
-    cases = Runs(words[1])
-    translations = len(words) == 3
-    out = sys.stdout
-    for number in range(count):
-        out.write((cases.case_t() if translations and number % 2 else cases.case_r()) + "\n")
-    out.flush()
+    for line in cases:
+        sys.stdout.write(line + "\n")
+    sys.stdout.flush()
     return 0
 
 

@@ -232,7 +232,7 @@ pub stop-is : (r : Stepped) (begins done found : ℕ) → found ≡ placeOf (r .
 stop-is r begins done found e = ap (λ (n : ℕ). ranOf (r .state) (r .next) (r .finding) n (r .ended) done) e
 
 -- a text byte is no ESC
-text-plain : (b : ℕ) → isText b ≡ true → eqb b 27 ≡ false
+pub text-plain : (b : ℕ) → isText b ≡ true → eqb b 27 ≡ false
 text-plain b h = go (eqb b 27) refl
   where
     go : (x : Bool) → eqb b 27 ≡ x → x ≡ false

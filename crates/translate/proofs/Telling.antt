@@ -1,33 +1,43 @@
 -- A stream written plain, item by item. Assumes nothing.
 use mathlib.Core.Path.{_≡_, refl, sym, ap, _∙_}
-use mathlib.Core.Bool.{Bool, true, false, cond, false≢true}
+use mathlib.Core.Bool.{Bool, true, false, not, _||_, false≢true}
 use mathlib.Core.List.{List, [], _∷_, _++_, append-nil, append-assoc}
 use Prim.Native.Nat.{ℕ, zero, suc, _+_, _*_, _-_, _≤_, _<_}
 use native.Mathlib.Omega.{arith}
 use native.Mathlib.Nat.{sub-zero}
-use lib.ListN.{length, take, drop}
+use lib.Dec.{eqb}
+use lib.ListN.{length, take, drop, getD}
 use lib.Seq.{length-sets}
-use Rattle.common.proofs.Choices.{choice-by}
+use Rattle.common.proofs.Places.{cut}
 use Rattle.rules.specs.declared.Measure.{Measure}
-use Rattle.rules.specs.declared.Sequence.the-variants.{Closed}
+use Rattle.rules.specs.declared.Sequence.{Sequence}
+use Rattle.rules.specs.declared.Sequence.the-variants.{Closed, Open}
+use Rattle.rules.specs.declared.Spot.{Spot}
 use Rattle.rules.specs.declared.Finding.{Finding}
+use Rattle.rules.specs.declared.Finding.the-variants.{Nothing}
 use Rattle.rules.specs.declared.Core.{Core}
 use Rattle.rules.specs.declared.Beside.{Beside}
 use Rattle.rules.specs.declared.State.{State}
 use Rattle.rules.specs.Sound.{sequenceSound}
-use Rattle.rules.specs.States.{stateOf, freshCore, afresh}
-use Rattle.rules.specs.Items.{read}
+use Rattle.rules.specs.States.{stateOf, withAt, withUsed, afresh}
+use Rattle.rules.specs.Codes.{typed}
+use Rattle.rules.specs.Items.{isText, read}
 use Rattle.rules.specs.Items as rule
-use Rattle.rules.specs.Acts.{Act, nextAll, mean, step, over}
+use Rattle.rules.specs.Acts.{Act, mean, step, isClosed, over}
 use Rattle.rules.specs.Run.{Trace, trace, traceOf, enough, wholeStream, actsOf, acts}
 use Rattle.rules.specs.Plain.{put, putAll, plain}
 use Rattle.reader.specs.declared.ReadItem.{ReadItem}
-use Rattle.reader.specs.Items.{itemIn, ItemAt}
+use Rattle.reader.specs.declared.Item.the-variants as found
+use Rattle.reader.specs.Items.{readAt, itemIn, ItemAt}
 use Rattle.reader.proofs.Places.{read-back}
 use Rattle.items.specs.declared.Acted.{Acted}
-use Rattle.items.specs.Acted.{acted, ActedOn}
-use Rattle.run.specs.Turns.{ItemDone}
-use Rattle.run.proofs.Turns.{item-done}
+use Rattle.items.specs.Acted.{actedOf, acted, ActedOn, ItemMoved}
+use Rattle.items.proofs.Deeds.{text-done}
+use Rattle.effects.specs.declared.Moving.{Moving}
+use Rattle.effects.specs.declared.Moving.the-variants.{To}
+use Rattle.text.specs.Cursor.{typedSpot}
+use Rattle.run.specs.Turns.{textNext, ItemDone}
+use Rattle.run.proofs.Turns.{item-done, over-not, text-plain, text-told}
 use Rattle.theorems.specs.Facts.{Fits, Shaped, SoundState}
 use Rattle.theorems.proofs.Reading.{left}
 use Rattle.theorems.proofs.Lengths.{fresh-shaped}
@@ -162,3 +172,66 @@ module _ (g : Measure) (fit : Fits g) (s before : List ℕ) (t : State) (at : �
           shaped = step-shaped g (fit .wide) t (drop at s) (h .shaped) not-over;
           sound = step-sound g fit t (drop at s) not-over (h .shaped) (h .sound);
         })
+
+-- a space or a text byte, as it is read
+text-at : (s : List ℕ) (at : ℕ) → at < length s → isText (getD s at 0) ≡ true → ItemAt s at Closed (record { item = found.Text (getD s at 0); sequence = Closed; next = at + 1 })
+unfolding readAt read
+text-at s at l h =
+    let b = getD s at 0 in
+    let k = cut s at l in
+    let z = text-plain b h in
+    let r : read Closed (drop at s) ≡ rule.reading (rule.text b) Closed (drop (at + 1) s) = rw (k, z, h) in
+    let n : at + (length (drop at s) - length (drop (at + 1) s)) ≡ at + 1 = rw k (omega arith) in
+    record {
+      is = rw r (ap (λ (i : ℕ). record { item = found.Text b; sequence = Closed; next = i }) (sym n));
+      forward = omega arith;
+      inside = omega arith;
+      ordered = omega arith;
+      ended = omega arith;
+      counted = omega arith;
+      low = omega arith;
+    }
+
+module _ (g : Measure) (fit : Fits g) (s before : List ℕ) (c : Core) (m : Beside) (q : Sequence) (at : ℕ) (room : List ℕ) (end : ℕ) (h : Telling g s before (stateOf c m q) at room end) where
+  -- behind a space or a text byte: the cursor moved, the page is used or not
+  pub telling-text : (x : Bool) (to : Spot) (u : Bool) (room′ : List ℕ) (end′ : ℕ) → x ≡ textNext s at q → x ≡ true → to ≡ typedSpot g (c .at) (c .layout) → u ≡ (c .used || not (eqb (getD s at 0) 32))
+      → Puts room end (getD s at 0 ∷ []) room′ end′ → Telling g s before (stateOf (withUsed u (withAt to c)) m q) (at + 1) room′ end′
+  unfolding typed plainItem
+  telling-text x to u room′ end′ e f k j p =
+      let z = text-told s at q x e f in
+      let d : withUsed u (withAt to c) ≡ typed g (getD s at 0) c = rw (k, j) in
+      let n = p .next in
+      go q (z .closed) h (over-not s at q (z .inside)) (text-at s at (z .inside) (z .text)) (text-done g (getD s at 0) c (withUsed u (withAt to c)) m d []) (record { puts = p; small = omega arith })
+    where
+      go : (r : Sequence) → r ≡ Closed → Telling g s before (stateOf c m r) at room end → false ≡ over (stateOf c m r) (drop at s) → ItemAt s at Closed (record { item = found.Text (getD s at 0); sequence = Closed; next = at + 1 })
+          → ActedOn g (mean g (rule.text (getD s at 0)) c m) c [] (actedOf (withUsed u (withAt to c)) m Nothing false) [] → PutsShort room end (getD s at 0 ∷ []) room′ end′
+          → Telling g s before (stateOf (withUsed u (withAt to c)) m r) (at + 1) room′ end′
+      go Closed e h v i a q =
+          telling-more g fit s before (stateOf c m Closed) at room end h false v refl (record { item = found.Text (getD s at 0); sequence = Closed; next = at + 1 }) (actedOf (withUsed u (withAt to c)) m Nothing false) [] [] i a [] room′ end′ refl q
+      go (Open first group) e h v i a q = absurd (false≢true (ap isClosed e))
+
+  module _ (x : Bool) (e : x ≡ over (stateOf c m q) (drop at s)) (f : x ≡ false) (r : ReadItem) (v : Moving) (to : Spot) (i : ItemAt s at q r) (j : ItemMoved g (r .item) (c .at) (c .layout) v) (z : v ≡ To to) where
+    moved : ActedOn g (mean g (itemIn s (r .item)) c m) c [] (actedOf (withAt to c) m Nothing false) []
+    moved = let w : ItemMoved g (r .item) (c .at) (c .layout) (To to) = rw z at j in w s c m refl refl []
+
+    -- less is left behind a position
+    pub moves-less : left (r .sequence) (drop (r .next) s) < left q (drop at s)
+    moves-less = telling-less g fit s before (stateOf c m q) at room end h x e f r (actedOf (withAt to c) m Nothing false) [] [] i moved
+
+    -- behind a position: the cursor moved
+    pub telling-moves : (room′ : List ℕ) (end′ : ℕ) → PutsShort room end (plainItem (itemIn s (r .item)) Nothing (take (g .wide) (c .seed))) room′ end′
+        → Telling g s before (stateOf (withAt to c) m (r .sequence)) (r .next) room′ end′
+    telling-moves room′ end′ p = telling-more g fit s before (stateOf c m q) at room end h x e f r (actedOf (withAt to c) m Nothing false) [] [] i moved [] room′ end′ refl p
+
+  -- less is left behind a text byte
+  pub text-less : (x : Bool) → x ≡ textNext s at q → x ≡ true → left q (drop (at + 1) s) < left q (drop at s)
+  unfolding left
+  text-less x e f = let z = text-told s at q x e f in go q (z .inside)
+    where
+      go : (r : Sequence) → at < length s → left r (drop (at + 1) s) < left r (drop at s)
+      go Closed l = rw (cut s at l) (omega arith)
+      go (Open first group) l = rw (cut s at l) (omega arith)
+
+  -- the seed row holds a row
+  pub seed-there : g .wide ≤ length (c .seed)
+  seed-there = let n = h .shaped .0 in let w = fit .wide in omega arith

@@ -9,9 +9,12 @@ ghost use Rattle.theorems.specs.Facts.{Fits};
 ghost use Rattle.theorems.specs.Statements.{TranslatePromise};
 ghost use Rattle.reader.specs.Items.{itemIn, fromOf, toOf};
 ghost use Rattle.plainitem.specs.Plain.{Puts, PutsShort, plainItem};
+use effects::Moving;
 use fresh::afresh;
 use items::do_item;
+use items::move_item;
 use plainitem::write_item;
+use plainitem::write_one;
 use reader::Item;
 use reader::read_item;
 use rules::Finding;
@@ -20,8 +23,11 @@ use rules::Refusal;
 use rules::Translated;
 use rules::Verdict;
 use run::is_over;
+use run::text_next;
 use state::allowed;
 use state::measure_of;
+use text::marked;
+use text::typed_at;
 
 // An item that is done, in the plain stream: a row is the front of the seed row that it left.
 fn write_done(
@@ -39,7 +45,8 @@ fn write_done(
     write_item(s, i, f, &seed[0..wide], room, at)
 }
 
-// The stream walked from its start, afresh, to its end. What is drawn falls on a page of no bytes.
+// The stream walked from its start, afresh, to its end, as a run does it: text and positions here, all else by `do_item`. What is drawn
+// falls on a page of no bytes.
 fn walk(g: Measure, s: &[u8], room: &mut [u8]) -> usize
     requires { ⌜ Fits g × (length (now s) ≤ 1048576) ⌝ }
     ensures { λ r. ⌜ Puts (now (room .entry)) 0 (plain g (now (s .entry))) (now (room .exit)) r ⌝ }
@@ -51,11 +58,32 @@ fn walk(g: Measure, s: &[u8], room: &mut [u8]) -> usize
     let mut at: usize = 0;
     let mut end: usize = 0;
     loop {
+        if text_next(s, at, sequence) {
+            let from = core.at;
+            let layout = core.layout;
+            let to = typed_at(g, from, layout);
+            let used = marked(core.used, s[at]);
+            core.at = to;
+            core.used = used;
+            end = write_one(s[at], room, end);
+            at += 1;
+            continue;
+        }
         if is_over(s, at, sequence) {
             return end;
         }
         let r = read_item(s, at, sequence);
         let item = r.item;
+        let here = core.at;
+        let around = core.layout;
+        let moving = move_item(g, item, here, around);
+        if let Moving::To(there) = moving {
+            end = write_done(s, item, Finding::Nothing, &core.seed, g.wide, room, end);
+            core.at = there;
+            sequence = r.sequence;
+            at = r.next;
+            continue;
+        }
         let a = do_item(&mut room[0..0], g, s, item, core, beside);
         let finding = a.finding;
         core = a.core;

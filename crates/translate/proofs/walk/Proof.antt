@@ -1,10 +1,11 @@
 -- `translate::walk` meets its contract. Assumes nothing.
-use Prim.Native.Nat.{_≤_}
-use lib.ListN.{length, drop}
-use Rattle.rules.specs.States.{stateOf}
-use Rattle.theorems.specs.Facts.{Fits}
+use Rattle.translate.proofs.Telling.{Telling, telling-first, telling-long, telling-small, telling-over, telling-seed, telling-less, telling-more, telling-text, text-less, telling-moves, moves-less, seed-there}
+use Rattle.run.proofs.Turns.{text-told}
 use Rattle.theorems.proofs.Reading.{left}
-use Rattle.translate.proofs.Telling.{Telling, telling-first, telling-long, telling-small, telling-over, telling-seed, telling-less, telling-more}
+use Rattle.theorems.specs.Facts.{Fits}
+use Rattle.rules.specs.States.{stateOf}
+use lib.ListN.{length, drop}
+use Prim.Native.Nat.{_≤_}
 use native.Mathlib.Omega.{arith}
 use borrow.Author.Needs.{needs}
 use Rattle.translate.proofs.walk.Statement.{statement}
@@ -22,17 +23,62 @@ afresh-requires c κs = search needs
 loop-holds : tie.Need-loop-holds Inv-loop μ-loop
 loop-holds c = (c .before .before .before .before .before .pre .0, c .before .before .before .before .before .pre .1, telling-first _ _ _ _ (c .before .before .before .before .before .pre .0) (c .before .before .afresh .ensures))
 
+text-next-requires : tie.Need-text-next-requires Inv-loop μ-loop
+text-next-requires c κs = search needs
+
+typed-at-requires : tie.Need-typed-at-requires Inv-loop μ-loop
+typed-at-requires c κs = search needs
+
+shared-slice-read-marked : tie.Need-shared-slice-read-marked Inv-loop μ-loop
+shared-slice-read-marked c = text-told (c .before .before .before .before .before .before .before .before .before .before .before .before .args .s .now) (c .before .before .before .before .before .before .loop .at) (c .before .before .before .before .before .before .loop .sequence) _ (c .before .before .before .before .before .text-next .ensures) (c .before .before .before .before .if1 .taken) .inside
+
+marked-requires : tie.Need-marked-requires Inv-loop μ-loop
+marked-requires c κs = search needs
+
+shared-slice-read-write-one : tie.Need-shared-slice-read-write-one Inv-loop μ-loop
+shared-slice-read-write-one c = text-told (c .before .before .before .before .before .before .before .before .before .before .before .before .before .before .args .s .now) (c .before .before .before .before .before .before .before .before .loop .at) (c .before .before .before .before .before .before .before .before .loop .sequence) _ (c .before .before .before .before .before .before .before .text-next .ensures) (c .before .before .before .before .before .before .if1 .taken) .inside
+
+write-one-requires : tie.Need-write-one-requires Inv-loop μ-loop
+write-one-requires c κs = omega (arith, telling-small _ (c .before .before .before .before .before .before .before .before .before .loop .inv .0) _ _ _ _ _ _ (c .before .before .before .before .before .before .before .before .before .loop .inv .2) (c .before .before .before .before .before .before .before .before .before .loop .inv .1))
+
+add-at : tie.Need-add-at Inv-loop μ-loop
+add-at c = search needs
+
+loop-less : tie.Need-loop-less Inv-loop μ-loop
+loop-less c = text-less _ (c .before .before .before .before .before .before .before .before .before .before .before .before .loop .inv .0) _ _ _ _ _ _ _ _ (c .before .before .before .before .before .before .before .before .before .before .before .before .loop .inv .2) _ (c .before .before .before .before .before .before .before .before .before .before .before .text-next .ensures) (c .before .before .before .before .before .before .before .before .before .before .if1 .taken)
+
+loop-again : tie.Need-loop-again Inv-loop μ-loop
+loop-again c = (c .before .before .before .before .before .before .before .before .before .before .before .before .loop .inv .0, c .before .before .before .before .before .before .before .before .before .before .before .before .loop .inv .1, telling-text _ (c .before .before .before .before .before .before .before .before .before .before .before .before .loop .inv .0) _ _ _ _ _ _ _ _ (c .before .before .before .before .before .before .before .before .before .before .before .before .loop .inv .2) _ _ _ _ _ (c .before .before .before .before .before .before .before .before .before .before .before .text-next .ensures) (c .before .before .before .before .before .before .before .before .before .before .if1 .taken) (c .before .before .before .before .before .before .before .typed-at .ensures) (c .before .before .before .before .before .marked .ensures) (c .before .before .write-one .ensures))
+
 is-over-requires : tie.Need-is-over-requires Inv-loop μ-loop
 is-over-requires c κs = search needs
 
 same-length : tie.Need-same-length Inv-loop μ-loop
-same-length c = telling-long _ _ _ _ _ _ _ (c .before .before .loop .inv .2)
+same-length c = telling-long _ _ _ _ _ _ _ (c .before .before .before .before .loop .inv .2)
 
 returns : tie.Need-returns Inv-loop μ-loop
-returns c = telling-over _ (c .before .before .loop .inv .0) _ _ _ _ _ _ (c .before .before .loop .inv .2) _ (c .before .is-over .ensures) (c .if1 .taken)
+returns c = telling-over _ (c .before .before .before .before .loop .inv .0) _ _ _ _ _ _ (c .before .before .before .before .loop .inv .2) _ (c .before .is-over .ensures) (c .if2 .taken)
 
 read-item-requires : tie.Need-read-item-requires Inv-loop μ-loop
 read-item-requires c κs = search needs
+
+move-item-requires : tie.Need-move-item-requires Inv-loop μ-loop
+move-item-requires c κs = search needs
+
+enum-known-moving : tie.Need-enum-known-moving Inv-loop μ-loop
+enum-known-moving c = search needs
+
+write-done-requires : tie.Need-write-done-requires Inv-loop μ-loop
+write-done-requires c κs = (c .before .before .before .before .before .before .before .before .before .before .read-item .ensures .ordered, omega (arith, c .before .before .before .before .before .before .before .before .before .before .read-item .ensures .ended, c .before .before .before .before .before .before .before .before .before .before .read-item .ensures .inside, c .before .before .before .before .before .before .before .before .before .before .before .before .before .before .before .loop .inv .2 .inside), c .before .before .before .before .before .before .before .before .before .before .read-item .ensures .counted, c .before .before .before .before .before .before .before .before .before .before .before .before .before .before .before .loop .inv .0 .wide, seed-there _ (c .before .before .before .before .before .before .before .before .before .before .before .before .before .before .before .loop .inv .0) _ _ _ _ _ _ _ _ (c .before .before .before .before .before .before .before .before .before .before .before .before .before .before .before .loop .inv .2), telling-small _ (c .before .before .before .before .before .before .before .before .before .before .before .before .before .before .before .loop .inv .0) _ _ _ _ _ _ (c .before .before .before .before .before .before .before .before .before .before .before .before .before .before .before .loop .inv .2) (c .before .before .before .before .before .before .before .before .before .before .before .before .before .before .before .loop .inv .1))
+
+loop-less-2 : tie.Need-loop-less-2 Inv-loop μ-loop
+loop-less-2 c = moves-less _ (c .before .before .before .before .before .before .before .before .before .before .before .before .before .before .before .before .before .before .loop .inv .0) _ _ _ _ _ _ _ _ (c .before .before .before .before .before .before .before .before .before .before .before .before .before .before .before .before .before .before .loop .inv .2) _ (c .before .before .before .before .before .before .before .before .before .before .before .before .before .before .before .is-over .ensures) (c .before .before .before .before .before .before .before .before .before .before .before .before .before .before .if2 .left) _ _ _ (c .before .before .before .before .before .before .before .before .before .before .before .before .before .read-item .ensures) (c .before .before .before .before .before .before .before .before .before .before .move-item .ensures) (c .before .before .before .before .before .before .before .before .moving .given .1)
+
+loop-again-2 : tie.Need-loop-again-2 Inv-loop μ-loop
+loop-again-2 c = (c .before .before .before .before .before .before .before .before .before .before .before .before .before .before .before .before .before .before .loop .inv .0, c .before .before .before .before .before .before .before .before .before .before .before .before .before .before .before .before .before .before .loop .inv .1, telling-moves _ (c .before .before .before .before .before .before .before .before .before .before .before .before .before .before .before .before .before .before .loop .inv .0) _ _ _ _ _ _ _ _ (c .before .before .before .before .before .before .before .before .before .before .before .before .before .before .before .before .before .before .loop .inv .2) _ (c .before .before .before .before .before .before .before .before .before .before .before .before .before .before .before .is-over .ensures) (c .before .before .before .before .before .before .before .before .before .before .before .before .before .before .if2 .left) _ _ _ (c .before .before .before .before .before .before .before .before .before .before .before .before .before .read-item .ensures) (c .before .before .before .before .before .before .before .before .before .before .move-item .ensures) (c .before .before .before .before .before .before .before .before .moving .given .1) _ _ (c .before .before .write-done .ensures))
+
+enum-told : tie.Need-enum-told Inv-loop μ-loop
+enum-told c = search needs
 
 sub-do-item : tie.Need-sub-do-item Inv-loop μ-loop
 sub-do-item c = search needs
@@ -44,16 +90,16 @@ part-do-item-end : tie.Need-part-do-item-end Inv-loop μ-loop
 part-do-item-end c = search needs
 
 do-item-requires : tie.Need-do-item-requires Inv-loop μ-loop
-do-item-requires c κs = ((c .before .before .before .before .loop .inv .0 .wide, c .before .before .before .before .loop .inv .0 .high, c .before .before .before .before .loop .inv .2 .sound .core .seed), (c .before .read-item .ensures .ordered, omega (arith, c .before .read-item .ensures .ended, c .before .read-item .ensures .inside, c .before .before .before .before .loop .inv .2 .inside)))
+do-item-requires c κs = ((c .before .before .before .before .before .before .before .before .before .before .before .loop .inv .0 .wide, c .before .before .before .before .before .before .before .before .before .before .before .loop .inv .0 .high, c .before .before .before .before .before .before .before .before .before .before .before .loop .inv .2 .sound .core .seed), (c .before .before .before .before .before .before .read-item .ensures .ordered, omega (arith, c .before .before .before .before .before .before .read-item .ensures .ended, c .before .before .before .before .before .before .read-item .ensures .inside, c .before .before .before .before .before .before .before .before .before .before .before .loop .inv .2 .inside)))
 
-write-done-requires : tie.Need-write-done-requires Inv-loop μ-loop
-write-done-requires c κs = (c .before .before .before .before .before .before .before .before .before .before .read-item .ensures .ordered, omega (arith, c .before .before .before .before .before .before .before .before .before .before .read-item .ensures .ended, c .before .before .before .before .before .before .before .before .before .before .read-item .ensures .inside, c .before .before .before .before .before .before .before .before .before .before .before .before .before .loop .inv .2 .inside), c .before .before .before .before .before .before .before .before .before .before .read-item .ensures .counted, c .before .before .before .before .before .before .before .before .before .before .before .before .before .loop .inv .0 .wide, telling-seed _ (c .before .before .before .before .before .before .before .before .before .before .before .before .before .loop .inv .0) _ _ _ _ _ _ (c .before .before .before .before .before .before .before .before .before .before .before .before .before .loop .inv .2) _ (c .before .before .before .before .before .before .before .before .before .before .before .before .is-over .ensures) (c .before .before .before .before .before .before .before .before .before .before .before .if1 .left) _ _ _ _ (c .before .before .before .before .before .before .before .before .before .before .read-item .ensures) (c .before .before .before .before .before .before .before .before .do-item .ensures), telling-small _ (c .before .before .before .before .before .before .before .before .before .before .before .before .before .loop .inv .0) _ _ _ _ _ _ (c .before .before .before .before .before .before .before .before .before .before .before .before .before .loop .inv .2) (c .before .before .before .before .before .before .before .before .before .before .before .before .before .loop .inv .1))
+write-done-requires-2 : tie.Need-write-done-requires-2 Inv-loop μ-loop
+write-done-requires-2 c κs = (c .before .before .before .before .before .before .before .before .before .before .before .before .before .before .before .read-item .ensures .ordered, omega (arith, c .before .before .before .before .before .before .before .before .before .before .before .before .before .before .before .read-item .ensures .ended, c .before .before .before .before .before .before .before .before .before .before .before .before .before .before .before .read-item .ensures .inside, c .before .before .before .before .before .before .before .before .before .before .before .before .before .before .before .before .before .before .before .before .loop .inv .2 .inside), c .before .before .before .before .before .before .before .before .before .before .before .before .before .before .before .read-item .ensures .counted, c .before .before .before .before .before .before .before .before .before .before .before .before .before .before .before .before .before .before .before .before .loop .inv .0 .wide, telling-seed _ (c .before .before .before .before .before .before .before .before .before .before .before .before .before .before .before .before .before .before .before .before .loop .inv .0) _ _ _ _ _ _ (c .before .before .before .before .before .before .before .before .before .before .before .before .before .before .before .before .before .before .before .before .loop .inv .2) _ (c .before .before .before .before .before .before .before .before .before .before .before .before .before .before .before .before .before .is-over .ensures) (c .before .before .before .before .before .before .before .before .before .before .before .before .before .before .before .before .if2 .left) _ _ _ _ (c .before .before .before .before .before .before .before .before .before .before .before .before .before .before .before .read-item .ensures) (c .before .before .before .before .before .before .before .before .do-item .ensures), telling-small _ (c .before .before .before .before .before .before .before .before .before .before .before .before .before .before .before .before .before .before .before .before .loop .inv .0) _ _ _ _ _ _ (c .before .before .before .before .before .before .before .before .before .before .before .before .before .before .before .before .before .before .before .before .loop .inv .2) (c .before .before .before .before .before .before .before .before .before .before .before .before .before .before .before .before .before .before .before .before .loop .inv .1))
 
-loop-less : tie.Need-loop-less Inv-loop μ-loop
-loop-less c = telling-less _ (c .before .before .before .before .before .before .before .before .before .before .before .before .before .before .before .before .loop .inv .0) _ _ _ _ _ _ (c .before .before .before .before .before .before .before .before .before .before .before .before .before .before .before .before .loop .inv .2) _ (c .before .before .before .before .before .before .before .before .before .before .before .before .before .before .before .is-over .ensures) (c .before .before .before .before .before .before .before .before .before .before .before .before .before .before .if1 .left) _ _ _ _ (c .before .before .before .before .before .before .before .before .before .before .before .before .before .read-item .ensures) (c .before .before .before .before .before .before .before .before .before .before .before .do-item .ensures)
+loop-less-3 : tie.Need-loop-less-3 Inv-loop μ-loop
+loop-less-3 c = telling-less _ (c .before .before .before .before .before .before .before .before .before .before .before .before .before .before .before .before .before .before .before .before .before .before .before .loop .inv .0) _ _ _ _ _ _ (c .before .before .before .before .before .before .before .before .before .before .before .before .before .before .before .before .before .before .before .before .before .before .before .loop .inv .2) _ (c .before .before .before .before .before .before .before .before .before .before .before .before .before .before .before .before .before .before .before .before .is-over .ensures) (c .before .before .before .before .before .before .before .before .before .before .before .before .before .before .before .before .before .before .before .if2 .left) _ _ _ _ (c .before .before .before .before .before .before .before .before .before .before .before .before .before .before .before .before .before .before .read-item .ensures) (c .before .before .before .before .before .before .before .before .before .before .before .do-item .ensures)
 
-loop-again : tie.Need-loop-again Inv-loop μ-loop
-loop-again c = (c .before .before .before .before .before .before .before .before .before .before .before .before .before .before .before .before .loop .inv .0, c .before .before .before .before .before .before .before .before .before .before .before .before .before .before .before .before .loop .inv .1, telling-more _ (c .before .before .before .before .before .before .before .before .before .before .before .before .before .before .before .before .loop .inv .0) _ _ _ _ _ _ (c .before .before .before .before .before .before .before .before .before .before .before .before .before .before .before .before .loop .inv .2) _ (c .before .before .before .before .before .before .before .before .before .before .before .before .before .before .before .is-over .ensures) (c .before .before .before .before .before .before .before .before .before .before .before .before .before .before .if1 .left) _ _ _ _ (c .before .before .before .before .before .before .before .before .before .before .before .before .before .read-item .ensures) (c .before .before .before .before .before .before .before .before .before .before .before .do-item .ensures) (c .before .before .before .before .before .before .before .before .before .before .before .do-item .last .0) _ _ (c .before .before .before .before .before .before .before .before .before .before .room .given .0) (c .before .before .write-done .ensures))
+loop-again-3 : tie.Need-loop-again-3 Inv-loop μ-loop
+loop-again-3 c = (c .before .before .before .before .before .before .before .before .before .before .before .before .before .before .before .before .before .before .before .before .before .before .before .loop .inv .0, c .before .before .before .before .before .before .before .before .before .before .before .before .before .before .before .before .before .before .before .before .before .before .before .loop .inv .1, telling-more _ (c .before .before .before .before .before .before .before .before .before .before .before .before .before .before .before .before .before .before .before .before .before .before .before .loop .inv .0) _ _ _ _ _ _ (c .before .before .before .before .before .before .before .before .before .before .before .before .before .before .before .before .before .before .before .before .before .before .before .loop .inv .2) _ (c .before .before .before .before .before .before .before .before .before .before .before .before .before .before .before .before .before .before .before .before .is-over .ensures) (c .before .before .before .before .before .before .before .before .before .before .before .before .before .before .before .before .before .before .before .if2 .left) _ _ _ _ (c .before .before .before .before .before .before .before .before .before .before .before .before .before .before .before .before .before .before .read-item .ensures) (c .before .before .before .before .before .before .before .before .before .before .before .do-item .ensures) (c .before .before .before .before .before .before .before .before .before .before .before .do-item .last .0) _ _ (c .before .before .before .before .before .before .before .before .before .before .room3 .given .0) (c .before .before .write-done2 .ensures))
 
 pub walk-spec : {M : Type 1} → statement M
 walk-spec =
@@ -63,14 +109,29 @@ walk-spec =
     μ-loop
     afresh-requires
     loop-holds
+    text-next-requires
+    typed-at-requires
+    shared-slice-read-marked
+    marked-requires
+    shared-slice-read-write-one
+    write-one-requires
+    add-at
+    loop-less
+    loop-again
     is-over-requires
     same-length
     returns
     read-item-requires
+    move-item-requires
+    enum-known-moving
+    write-done-requires
+    loop-less-2
+    loop-again-2
+    enum-told
     sub-do-item
     part-do-item-start
     part-do-item-end
     do-item-requires
-    write-done-requires
-    loop-less
-    loop-again)
+    write-done-requires-2
+    loop-less-3
+    loop-again-3)
