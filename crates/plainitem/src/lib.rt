@@ -12,7 +12,7 @@ ghost use Rattle.rules.specs.Acts.{order};
 ghost use Rattle.rules.specs.Plain.{put};
 ghost use Rattle.reader.specs.Items.{itemIn, fromOf, toOf};
 ghost use Rattle.plainitem.specs.Plain.{Puts, PutsShort, carriedCodes, plainBytes, plainCommand, plainItem};
-use changes::copy;
+use elements::copy;
 use heads::head_length;
 use heads::write_print_head;
 use heads::write_row_head;

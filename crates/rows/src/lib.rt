@@ -6,11 +6,11 @@ ghost use lib.ListN.{length};
 ghost use Rattle.rules.specs.Rows.{byControl, decoded};
 ghost use Rattle.controls.specs.Controls.{controlOf};
 ghost use Rattle.rows.specs.Decoding.{Decoded, Made};
-use changes::change;
-use changes::clear;
-use changes::copy;
 use common::least;
 use controls::look;
+use elements::change;
+use elements::clear;
+use elements::copy;
 
 // A row by a method with control bytes: changed if the payload is whole, else zeros.
 fn by_control(method: u8, s: &[u8], row: &mut [u8]) -> bool

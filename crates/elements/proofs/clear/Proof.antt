@@ -1,8 +1,8 @@
 -- `rows::clear` meets its contract: a run as long as the row is the row. Assumes nothing.
 use borrow.Author.Needs.{needs}
-use Rattle.changes.proofs.Clips.{cleared}
-use Rattle.changes.proofs.clear.Statement.{statement}
-use Rattle.changes.proofs.clear.Tie as tie
+use Rattle.elements.proofs.Clips.{cleared}
+use Rattle.elements.proofs.clear.Statement.{statement}
+use Rattle.elements.proofs.clear.Tie as tie
 
 fill-requires : tie.Need-fill-requires
 fill-requires c κs = search needs

@@ -5,7 +5,7 @@ ghost use lib.ListN.{length, take, drop, replicate};
 ghost use lib.Seq.{sets};
 ghost use Rattle.rules.specs.Rows.{changed};
 ghost use Rattle.controls.specs.Controls.{controlOf};
-ghost use Rattle.changes.specs.Elements.{repeated, Led, Small, Put, Onward};
+ghost use Rattle.elements.specs.Elements.{repeated, Led, Small, Put, Onward};
 use common::byte_at;
 use common::least;
 use common::wide;

@@ -1,9 +1,9 @@
 -- `rows::fill` meets its contract: the loop's invariant: k of the places that there are are filled. The measure is how many are left. Assumes nothing.
 use Prim.Native.Nat.{_-_}
 use borrow.Author.Needs.{needs}
-use Rattle.changes.proofs.Clips.{Filling, filling-none, filling-more, filling-end}
-use Rattle.changes.proofs.fill.Statement.{statement}
-use Rattle.changes.proofs.fill.Tie as tie
+use Rattle.elements.proofs.Clips.{Filling, filling-none, filling-more, filling-end}
+use Rattle.elements.proofs.fill.Statement.{statement}
+use Rattle.elements.proofs.fill.Tie as tie
 
 abbrev Inv-loop : tie.InvT-loop
 Inv-loop row₀ at n b m k₀ row k = Filling row₀ at n b m row k

@@ -2,9 +2,9 @@
 use Prim.Native.Nat.{_-_}
 use lib.ListN.{length}
 use borrow.Author.Needs.{needs}
-use Rattle.changes.proofs.Changes.{Changing, changing-none, changing-more, changing-past, changing-end}
-use Rattle.changes.proofs.change.Statement.{statement}
-use Rattle.changes.proofs.change.Tie as tie
+use Rattle.elements.proofs.Changes.{Changing, changing-none, changing-more, changing-past, changing-end}
+use Rattle.elements.proofs.change.Statement.{statement}
+use Rattle.elements.proofs.change.Tie as tie
 
 abbrev Inv-loop : tie.InvT-loop
 Inv-loop method s row₀ i₀ at₀ row i at = Changing method s row₀ row i at

@@ -16,7 +16,7 @@ use Rattle.rules.specs.declared.Mode.{Mode}
 use Rattle.rules.specs.declared.Mode.the-variants.{Ready, Offset, Copy, Repeat}
 use Rattle.rules.specs.Rows.{after, placed, changed}
 use Rattle.controls.specs.Controls.{controlOf, fulls, count, place, Means, Passed}
-use Rattle.changes.specs.Elements.{Led, Small, repeated, Put, Onward}
+use Rattle.elements.specs.Elements.{Led, Small, repeated, Put, Onward}
 use Rattle.controls.proofs.Controls.{Rising, rising}
 
 -- from the row's end on a byte changes nothing

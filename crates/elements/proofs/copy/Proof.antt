@@ -1,9 +1,9 @@
 -- `rows::copy` meets its contract: the loop's invariant: k of the bytes that fit are stored. The measure is how many are left. Assumes nothing.
 use Prim.Native.Nat.{_-_}
 use borrow.Author.Needs.{needs}
-use Rattle.changes.proofs.Clips.{Copying, copying-none, copying-more, copying-end, nearer}
-use Rattle.changes.proofs.copy.Statement.{statement}
-use Rattle.changes.proofs.copy.Tie as tie
+use Rattle.elements.proofs.Clips.{Copying, copying-none, copying-more, copying-end, nearer}
+use Rattle.elements.proofs.copy.Statement.{statement}
+use Rattle.elements.proofs.copy.Tie as tie
 
 abbrev Inv-loop : tie.InvT-loop
 Inv-loop row₀ at s i n m k₀ row k = Copying row₀ at s i n m row k

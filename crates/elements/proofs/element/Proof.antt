@@ -1,8 +1,8 @@
 -- `rows::element` meets its contract: a law for each mode. Assumes nothing.
 use borrow.Author.Needs.{needs}
-use Rattle.changes.proofs.Changes.{offset-small, behind-small, copy-small, run-small, ready-on, offset-on, copy-on, repeat-on}
-use Rattle.changes.proofs.element.Statement.{statement}
-use Rattle.changes.proofs.element.Tie as tie
+use Rattle.elements.proofs.Changes.{offset-small, behind-small, copy-small, run-small, ready-on, offset-on, copy-on, repeat-on}
+use Rattle.elements.proofs.element.Statement.{statement}
+use Rattle.elements.proofs.element.Tie as tie
 
 shared-slice-read-control : tie.Need-shared-slice-read-control
 shared-slice-read-control c = search needs

@@ -1,8 +1,8 @@
 -- `rows::run` meets its contract: a law for each of the two ways. Assumes nothing.
 use borrow.Author.Needs.{needs}
-use Rattle.changes.proofs.Changes.{run-none, run-some}
-use Rattle.changes.proofs.run.Statement.{statement}
-use Rattle.changes.proofs.run.Tie as tie
+use Rattle.elements.proofs.Changes.{run-none, run-some}
+use Rattle.elements.proofs.run.Statement.{statement}
+use Rattle.elements.proofs.run.Tie as tie
 
 add-if1 : tie.Need-add-if1
 add-if1 c = search needs
