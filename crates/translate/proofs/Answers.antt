@@ -2,7 +2,9 @@
 use mathlib.Core.Path.{_≡_, _∙_}
 use mathlib.Core.Bool.{Bool, true, false, not}
 use mathlib.Core.List.{List, _++_}
-use Prim.Native.Nat.{ℕ, _≤_, _<_}
+use mathlib.Core.Logic.{⊎-elim}
+use Prim.Native.Nat.{ℕ, _≤_, _<_, min}
+use native.Mathlib.Omega.{arith}
 use native.Mathlib.Nat.{zero-add}
 use lib.Dec.{ltb}
 use lib.ListN.{length}
@@ -17,8 +19,8 @@ use Rattle.rules.specs.Measure.{allowed, measureOf, longestStream}
 use Rattle.rules.specs.Plain.{plain, refusedRoom, tooLong, translate}
 use Rattle.theorems.specs.Statements.{TranslatePromise}
 use Rattle.theorems.proofs.Theorems.{every-stream-has-a-plain-stream}
-use Rattle.common.proofs.Choices.{or-true-left, or-true-right, or-neither}
-use Rattle.plainitem.specs.Plain.{Puts}
+use Rattle.common.proofs.Choices.{or-true-left, or-true-right, or-neither, le-or-lt}
+use Rattle.translate.specs.Walked.{Walked}
 use Rattle.translate.proofs.Telling.{no-bytes}
 
 module _ (W H : ℕ) (stream room : List ℕ) (r : Translated) (x : Bool) (a : x ≡ allowed W H) where
@@ -43,33 +45,34 @@ module _ (W H : ℕ) (stream room : List ℕ) (r : Translated) (x : Bool) (a : x
         let z = lt-ltb longestStream (length stream) e in
         promised room (rw (← a, not-false x a₁, z) (h room)) (rw (← a, not-false x a₁, z))
 
-    module _ (c : length stream ≤ longestStream) (g : Measure) (m : g ≡ measureOf W H) (none′ none : List ℕ) (n : ℕ) (k : Puts none′ 0 (plain g stream) none n) (z : length none ≡ 0) where
-      -- the length of the plain stream, as it was counted
-      counted : n ≡ length (plain (measureOf W H) stream)
-      counted = rw (m, zero-add) at (k .next)
+    module _ (c : length stream ≤ longestStream) (g : Measure) (m : g ≡ measureOf W H) (most : ℕ) (w : most ≡ min (length room) longestStream)
+        (none′ none : List ℕ) (n : ℕ) (k : Walked g stream none′ most n none) (z : length none ≡ 0) where
+      -- the length of the plain stream
+      abbrev long : ℕ
+      long = length (plain (measureOf W H) stream)
 
-      -- 15: where the test says that it is too long
-      refused-long : tooLong (plain (measureOf W H) stream) room ≡ true → Gives Room → TranslatePromise W H stream room r (none ++ room)
+      -- more is to be written than there is room for, or than a stream may have: 15
+      short : most < long → tooLong (plain (measureOf W H) stream) room ≡ true
+      short l = ⊎-elim
+          (λ e. or-true-right (ltb (length room) long) (ltb longestStream long) (lt-ltb longestStream long (omega arith)))
+          (λ e. or-true-left (ltb (length room) long) (ltb longestStream long) (lt-ltb (length room) long e))
+          (le-or-lt long (length room))
+
+      pub no-room : most < n → Gives Room → TranslatePromise W H stream room r (none ++ room)
       unfolding translate
-      refused-long t h =
+      no-room l h =
           let y = le-ltb longestStream (length stream) c in
+          let t = short (rw m at (k .beyond l)) in
           rw (no-bytes none z) (promised room (rw (← a, not-false x a₁, y, t) (h room)) (rw (← a, not-false x a₁, y, t)))
 
-      pub no-room : length (none ++ room) < n → Gives Room → TranslatePromise W H stream room r (none ++ room)
-      no-room e h = refused-long (or-true-left (ltb (length room) (length (plain (measureOf W H) stream))) (ltb longestStream (length (plain (measureOf W H) stream))) (rw counted at (lt-ltb (length room) n (rw (no-bytes none z) at e)))) h
-
-      pub too-many : longestStream < n → Gives Room → TranslatePromise W H stream room r (none ++ room)
-      too-many e h = refused-long (or-true-right (ltb (length room) (length (plain (measureOf W H) stream))) (ltb longestStream (length (plain (measureOf W H) stream))) (rw counted at (lt-ltb longestStream n e))) h
-
       -- carried out: the room begins with the plain stream, and the rest of it is as it was
-      pub carried : n ≤ length (none ++ room) → n ≤ longestStream → (after : List ℕ) (q : ℕ) → Puts (none ++ room) 0 (plain g stream) after q → r ≡ record { verdict = Carried; length = n }
-          → TranslatePromise W H stream room r after
+      pub carried : n ≤ most → (after : List ℕ) (q : ℕ) → Walked g stream (none ++ room) most q after → r ≡ record { verdict = Carried; length = n } → TranslatePromise W H stream room r after
       unfolding translate
-      carried e′ f after q p h =
-          let e : n ≤ length room = rw (no-bytes none z) at e′ in
+      carried l after q p h =
           let y = le-ltb longestStream (length stream) c in
-          let long = length (plain (measureOf W H) stream) in
-          let t : tooLong (plain (measureOf W H) stream) room ≡ false = or-neither (ltb (length room) long) (ltb longestStream long) (rw counted at (le-ltb (length room) n e)) (rw counted at (le-ltb longestStream n f)) in
-          let u : after ≡ sets room 0 (plain (measureOf W H) stream) = rw (m, no-bytes none z) at (p .held) in
-          let v = sets-eq (plain (measureOf W H) stream) room 0 (rw (counted, ← zero-add long) at e) in
-          promised after (rw (← a, not-false x a₁, y, t) (h ∙ rw counted)) (rw (← a, not-false x a₁, y, t) (u ∙ rw zero-add at v))
+          let e : n ≡ long = rw (m, zero-add) at (k .whole l .next) in
+          let t : tooLong (plain (measureOf W H) stream) room ≡ false = or-neither (ltb (length room) long) (ltb longestStream long) (le-ltb (length room) long (omega arith)) (le-ltb longestStream long (omega arith)) in
+          let i : q ≤ most = ⊎-elim (λ j. j) (λ j. let o : most < long = rw m at (p .beyond j) in absurd (omega arith)) (le-or-lt q most) in
+          let u : after ≡ sets room 0 (plain (measureOf W H) stream) = rw (m, no-bytes none z) at (p .whole i .held) in
+          let v = sets-eq (plain (measureOf W H) stream) room 0 (rw zero-add (omega arith)) in
+          promised after (rw (← a, not-false x a₁, y, t) (h ∙ rw e)) (rw (← a, not-false x a₁, y, t) (u ∙ rw zero-add at v))

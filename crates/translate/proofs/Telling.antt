@@ -6,7 +6,7 @@ use Prim.Native.Nat.{ℕ, zero, suc, _+_, _*_, _-_, _≤_, _<_}
 use native.Mathlib.Omega.{arith}
 use native.Mathlib.Nat.{sub-zero}
 use lib.Dec.{eqb}
-use lib.ListN.{length, take, drop, getD}
+use lib.ListN.{length, length-append, take, drop, getD}
 use lib.Seq.{length-sets}
 use Rattle.common.proofs.Places.{cut}
 use Rattle.rules.specs.declared.Measure.{Measure}
@@ -44,6 +44,7 @@ use Rattle.theorems.proofs.Lengths.{fresh-shaped}
 use Rattle.theorems.proofs.Soundness.{fresh-sound}
 use Rattle.theorems.proofs.Streams.{step-shaped, step-left}
 use Rattle.theorems.proofs.Sound.{step-sound}
+use Rattle.translate.specs.Walked.{Walked}
 use Rattle.plainitem.specs.Plain.{Puts, PutsShort, plainItem}
 use Rattle.plainitem.proofs.Writing.{puts-none, puts-both}
 use Rattle.plainitem.proofs.Meaning.{item-tells}
@@ -112,12 +113,23 @@ module _ (g : Measure) (fit : Fits g) (s before : List ℕ) (t : State) (at : �
   pub telling-small : length s ≤ 1048576 → end ≤ 1099511627775
   telling-small l = let f = h .few in omega arith
 
+  -- what is written is the front of the plain stream
+  front : end ≤ length (plain g s)
+  front =
+      let k = h .puts .next in
+      rw (h .all) (omega (arith, length-append (h .written) (putAll (actsOf (trace g (h .fuel) t (drop at s) .items)) [])))
+
+  -- too much is to be written
+  pub telling-beyond : (most : ℕ) → most < end → Walked g s before most end room
+  telling-beyond most l = let f = front in record { whole = λ k. absurd (omega arith); beyond = λ k. omega arith }
+
   -- at the end all is written
-  pub telling-over : (x : Bool) → x ≡ over t (drop at s) → x ≡ true → Puts before 0 (plain g s) room end
+  pub telling-over : (most : ℕ) (x : Bool) → x ≡ over t (drop at s) → x ≡ true → Walked g s before most end room
   unfolding actsOf putAll
-  telling-over x e f =
+  telling-over most x e f =
       let z : plain g s ≡ h .written = rw (trace-over g t (drop at s) (h .fuel) (sym e ∙ f), append-nil (h .written)) at (h .all) in
-      rw z (h .puts)
+      let k = front in
+      record { whole = λ l. rw z (h .puts); beyond = λ l. omega arith }
 
   module _ (x : Bool) (e : x ≡ over t (drop at s)) (f : x ≡ false) (r : ReadItem) (a : Acted) (p after : List ℕ) (i : ItemAt s at (t .sequence) r)
       (d : ActedOn g (mean g (itemIn s (r .item)) (t .core) (t .beside)) (t .core) p a after) where

@@ -4,11 +4,13 @@ ghost use mathlib.Core.Path.{_≡_};
 ghost use mathlib.Core.List.{List};
 ghost use Prim.Native.Nat.{ℕ, _+_, _≤_};
 ghost use lib.ListN.{length, take};
-ghost use Rattle.rules.specs.Plain.{plain, refusedRoom};
+ghost use Rattle.rules.specs.Plain.{refusedRoom};
 ghost use Rattle.theorems.specs.Facts.{Fits};
 ghost use Rattle.theorems.specs.Statements.{TranslatePromise};
 ghost use Rattle.reader.specs.Items.{itemIn, fromOf, toOf};
-ghost use Rattle.plainitem.specs.Plain.{Puts, PutsShort, plainItem};
+ghost use Rattle.plainitem.specs.Plain.{PutsShort, plainItem};
+ghost use Rattle.translate.specs.Walked.{Walked};
+use common::least;
 use effects::Moving;
 use fresh::afresh;
 use items::do_item;
@@ -46,10 +48,10 @@ fn write_done(
 }
 
 // The stream walked from its start, afresh, to its end, as a run does it: text and positions here, all else by `do_item`. What is drawn
-// falls on a page of no bytes.
-fn walk(g: Measure, s: &[u8], room: &mut [u8]) -> usize
+// falls on a page of no bytes. It ends early where more than `most` bytes are to be written.
+fn walk(g: Measure, s: &[u8], room: &mut [u8], most: usize) -> usize
     requires { ⌜ Fits g × (length (now s) ≤ 1048576) ⌝ }
-    ensures { λ r. ⌜ Puts (now (room .entry)) 0 (plain g (now (s .entry))) (now (room .exit)) r ⌝ }
+    ensures { λ r. ⌜ Walked g (now (s .entry)) (now (room .entry)) most r (now (room .exit)) ⌝ }
 {
     let t = afresh(g);
     let mut core = t.core;
@@ -58,6 +60,9 @@ fn walk(g: Measure, s: &[u8], room: &mut [u8]) -> usize
     let mut at: usize = 0;
     let mut end: usize = 0;
     loop {
+        if most < end {
+            return end;
+        }
         if text_next(s, at, sequence) {
             let from = core.at;
             let layout = core.layout;
@@ -115,14 +120,12 @@ pub fn translate(w: usize, h: usize, s: &[u8], room: &mut [u8]) -> Translated
         return refuse(Refusal::StreamLength);
     }
     let g = measure_of(w, h);
-    let n = walk(g, s, &mut room[0..0]);
-    if room.len() < n {
+    let most = least(room.len(), 1048576);
+    let n = walk(g, s, &mut room[0..0], most);
+    if most < n {
         return refuse(Refusal::Room);
     }
-    if 1048576 < n {
-        return refuse(Refusal::Room);
-    }
-    walk(g, s, room);
+    walk(g, s, room, most);
     Translated {
         verdict: Verdict::Carried,
         length: n,

@@ -1,8 +1,7 @@
 -- `translate::translate` meets its contract. Assumes nothing.
-use mathlib.Core.Path.{refl}
+use Rattle.translate.proofs.Answers.{no-measure, no-stream, no-room, carried}
 use Rattle.run.proofs.Answers.{fits}
-use Rattle.translate.proofs.Answers.{no-measure, no-stream, no-room, too-many, carried}
-use native.Mathlib.Omega.{arith}
+use mathlib.Core.Path.{refl}
 use borrow.Author.Needs.{needs}
 use Rattle.translate.proofs.translate.Statement.{statement}
 use Rattle.translate.proofs.translate.Tie as tie
@@ -25,6 +24,9 @@ returns-2 c = no-stream _ _ _ _ _ _ (c .before .before .before .allowed .ensures
 measure-of-requires : tie.Need-measure-of-requires
 measure-of-requires c κs = search needs
 
+least-requires : tie.Need-least-requires
+least-requires c κs = search needs
+
 sub-walk : tie.Need-sub-walk
 sub-walk c = search needs
 
@@ -35,7 +37,7 @@ part-walk-end : tie.Need-part-walk-end
 part-walk-end c = search needs
 
 walk-requires : tie.Need-walk-requires
-walk-requires c κs = (fits _ _ _ (c .before .before .before .before .allowed .ensures) (c .before .before .before .if1 .left) _ (c .before .measure-of .ensures), c .before .before .if2 .left)
+walk-requires c κs = (fits _ _ _ (c .before .before .before .before .before .allowed .ensures) (c .before .before .before .before .if1 .left) _ (c .before .before .measure-of .ensures), c .before .before .before .if2 .left)
 
 refuse-requires-3 : tie.Need-refuse-requires-3
 refuse-requires-3 c κs = search needs
@@ -44,25 +46,16 @@ same-length : tie.Need-same-length
 same-length c = search needs
 
 returns-3 : tie.Need-returns-3
-returns-3 c = no-room _ _ _ _ _ _ (c .before .before .before .before .before .before .before .before .before .allowed .ensures) (c .before .before .before .before .before .before .before .before .if1 .left) (c .before .before .before .before .before .before .before .if2 .left) _ (c .before .before .before .before .before .before .measure-of .ensures) _ (c .before .before .before .before .walk .last .1 .1 .0) _ (c .before .before .before .before .walk .ensures) (c .before .before .before .room .given .0) (c .before .if3 .taken) (c .refuse3 .ensures)
+returns-3 c = no-room _ _ _ _ _ _ (c .before .before .before .before .before .before .before .before .before .before .allowed .ensures) (c .before .before .before .before .before .before .before .before .before .if1 .left) (c .before .before .before .before .before .before .before .before .if2 .left) _ (c .before .before .before .before .before .before .before .measure-of .ensures) _ (c .before .before .before .before .before .before .least .ensures) _ (c .before .before .before .before .walk .last .1 .1 .0) _ (c .before .before .before .before .walk .ensures) (c .before .before .before .room .given .0) (c .before .if3 .taken) (c .refuse3 .ensures)
 
-refuse-requires-4 : tie.Need-refuse-requires-4
-refuse-requires-4 c κs = search needs
+walk-requires-2 : tie.Need-walk-requires-2
+walk-requires-2 c κs = (fits _ _ _ (c .before .before .before .before .before .before .before .before .before .before .allowed .ensures) (c .before .before .before .before .before .before .before .before .before .if1 .left) _ (c .before .before .before .before .before .before .before .measure-of .ensures), c .before .before .before .before .before .before .before .before .if2 .left)
 
 same-length-2 : tie.Need-same-length-2
 same-length-2 c = search needs
 
 returns-4 : tie.Need-returns-4
-returns-4 c = too-many _ _ _ _ _ _ (c .before .before .before .before .before .before .before .before .before .before .allowed .ensures) (c .before .before .before .before .before .before .before .before .before .if1 .left) (c .before .before .before .before .before .before .before .before .if2 .left) _ (c .before .before .before .before .before .before .before .measure-of .ensures) _ (c .before .before .before .before .before .walk .last .1 .1 .0) _ (c .before .before .before .before .before .walk .ensures) (c .before .before .before .before .room .given .0) (c .before .if4 .taken) (c .refuse4 .ensures)
-
-walk-requires-2 : tie.Need-walk-requires-2
-walk-requires-2 c κs = (fits _ _ _ (c .before .before .before .before .before .before .before .before .before .before .allowed .ensures) (c .before .before .before .before .before .before .before .before .before .if1 .left) _ (c .before .before .before .before .before .before .before .measure-of .ensures), c .before .before .before .before .before .before .before .before .if2 .left)
-
-same-length-3 : tie.Need-same-length-3
-same-length-3 c = search needs
-
-returns-5 : tie.Need-returns-5
-returns-5 c = carried _ _ _ _ _ _ (c .before .before .before .before .before .before .before .before .before .before .before .before .before .allowed .ensures) (c .before .before .before .before .before .before .before .before .before .before .before .before .if1 .left) (c .before .before .before .before .before .before .before .before .before .before .before .if2 .left) _ (c .before .before .before .before .before .before .before .before .before .before .measure-of .ensures) _ (c .before .before .before .before .before .before .before .before .walk .last .1 .1 .0) _ (c .before .before .before .before .before .before .before .before .walk .ensures) (c .before .before .before .before .before .before .before .room .given .0) (c .before .before .before .before .before .if3 .left) (c .before .before .before .before .if4 .left) _ _ (c .before .before .walk2 .ensures) refl
+returns-4 c = carried _ _ _ _ _ _ (c .before .before .before .before .before .before .before .before .before .before .before .before .before .allowed .ensures) (c .before .before .before .before .before .before .before .before .before .before .before .before .if1 .left) (c .before .before .before .before .before .before .before .before .before .before .before .if2 .left) _ (c .before .before .before .before .before .before .before .before .before .before .measure-of .ensures) _ (c .before .before .before .before .before .before .before .before .before .least .ensures) _ (c .before .before .before .before .before .before .before .walk .last .1 .1 .0) _ (c .before .before .before .before .before .before .before .walk .ensures) (c .before .before .before .before .before .before .room .given .0) (c .before .before .before .before .if3 .left) _ _ (c .before .before .walk2 .ensures) refl
 
 pub translate-spec : {M : Type 1} → statement M
 translate-spec =
@@ -74,6 +67,7 @@ translate-spec =
     refuse-requires-2
     returns-2
     measure-of-requires
+    least-requires
     sub-walk
     part-walk-start
     part-walk-end
@@ -81,9 +75,6 @@ translate-spec =
     refuse-requires-3
     same-length
     returns-3
-    refuse-requires-4
-    same-length-2
-    returns-4
     walk-requires-2
-    same-length-3
-    returns-5)
+    same-length-2
+    returns-4)

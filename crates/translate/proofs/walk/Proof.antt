@@ -1,5 +1,5 @@
 -- `translate::walk` meets its contract. Assumes nothing.
-use Rattle.translate.proofs.Telling.{Telling, telling-first, telling-long, telling-small, telling-over, telling-seed, telling-less, telling-more, telling-text, text-less, telling-moves, moves-less, seed-there}
+use Rattle.translate.proofs.Telling.{Telling, telling-first, telling-long, telling-small, telling-beyond, telling-over, telling-seed, telling-less, telling-more, telling-text, text-less, telling-moves, moves-less, seed-there}
 use Rattle.run.proofs.Turns.{text-told}
 use Rattle.theorems.proofs.Reading.{left}
 use Rattle.theorems.specs.Facts.{Fits}
@@ -12,16 +12,22 @@ use Rattle.translate.proofs.walk.Statement.{statement}
 use Rattle.translate.proofs.walk.Tie as tie
 
 abbrev Inv-loop : tie.InvT-loop
-Inv-loop g s room₀ core₀ beside₀ sequence₀ at₀ end₀ room core beside sequence at end = Fits g × (length s ≤ 1048576) × Telling g s room₀ (stateOf core beside sequence) at room end
+Inv-loop g s room₀ most core₀ beside₀ sequence₀ at₀ end₀ room core beside sequence at end = Fits g × (length s ≤ 1048576) × Telling g s room₀ (stateOf core beside sequence) at room end
 
 abbrev μ-loop : tie.MeasureT-loop
-μ-loop g s room₀ core₀ beside₀ sequence₀ at₀ end₀ room core beside sequence at end = left sequence (drop at s)
+μ-loop g s room₀ most core₀ beside₀ sequence₀ at₀ end₀ room core beside sequence at end = left sequence (drop at s)
 
 afresh-requires : tie.Need-afresh-requires Inv-loop μ-loop
 afresh-requires c κs = search needs
 
 loop-holds : tie.Need-loop-holds Inv-loop μ-loop
 loop-holds c = (c .before .before .before .before .before .pre .0, c .before .before .before .before .before .pre .1, telling-first _ _ _ _ (c .before .before .before .before .before .pre .0) (c .before .before .afresh .ensures))
+
+same-length : tie.Need-same-length Inv-loop μ-loop
+same-length c = telling-long _ _ _ _ _ _ _ (c .before .loop .inv .2)
+
+returns : tie.Need-returns Inv-loop μ-loop
+returns c = telling-beyond _ (c .before .loop .inv .0) _ _ _ _ _ _ (c .before .loop .inv .2) _ (c .if1 .taken)
 
 text-next-requires : tie.Need-text-next-requires Inv-loop μ-loop
 text-next-requires c κs = search needs
@@ -30,34 +36,34 @@ typed-at-requires : tie.Need-typed-at-requires Inv-loop μ-loop
 typed-at-requires c κs = search needs
 
 shared-slice-read-marked : tie.Need-shared-slice-read-marked Inv-loop μ-loop
-shared-slice-read-marked c = text-told (c .before .before .before .before .before .before .before .before .before .before .before .before .args .s .now) (c .before .before .before .before .before .before .loop .at) (c .before .before .before .before .before .before .loop .sequence) _ (c .before .before .before .before .before .text-next .ensures) (c .before .before .before .before .if1 .taken) .inside
+shared-slice-read-marked c = text-told (c .before .before .before .before .before .before .before .before .before .before .before .before .before .args .s .now) (c .before .before .before .before .before .before .before .loop .at) (c .before .before .before .before .before .before .before .loop .sequence) _ (c .before .before .before .before .before .text-next .ensures) (c .before .before .before .before .if2 .taken) .inside
 
 marked-requires : tie.Need-marked-requires Inv-loop μ-loop
 marked-requires c κs = search needs
 
 shared-slice-read-write-one : tie.Need-shared-slice-read-write-one Inv-loop μ-loop
-shared-slice-read-write-one c = text-told (c .before .before .before .before .before .before .before .before .before .before .before .before .before .before .args .s .now) (c .before .before .before .before .before .before .before .before .loop .at) (c .before .before .before .before .before .before .before .before .loop .sequence) _ (c .before .before .before .before .before .before .before .text-next .ensures) (c .before .before .before .before .before .before .if1 .taken) .inside
+shared-slice-read-write-one c = text-told (c .before .before .before .before .before .before .before .before .before .before .before .before .before .before .before .args .s .now) (c .before .before .before .before .before .before .before .before .before .loop .at) (c .before .before .before .before .before .before .before .before .before .loop .sequence) _ (c .before .before .before .before .before .before .before .text-next .ensures) (c .before .before .before .before .before .before .if2 .taken) .inside
 
 write-one-requires : tie.Need-write-one-requires Inv-loop μ-loop
-write-one-requires c κs = omega (arith, telling-small _ (c .before .before .before .before .before .before .before .before .before .loop .inv .0) _ _ _ _ _ _ (c .before .before .before .before .before .before .before .before .before .loop .inv .2) (c .before .before .before .before .before .before .before .before .before .loop .inv .1))
+write-one-requires c κs = omega (arith, telling-small _ (c .before .before .before .before .before .before .before .before .before .before .loop .inv .0) _ _ _ _ _ _ (c .before .before .before .before .before .before .before .before .before .before .loop .inv .2) (c .before .before .before .before .before .before .before .before .before .before .loop .inv .1))
 
 add-at : tie.Need-add-at Inv-loop μ-loop
 add-at c = search needs
 
 loop-less : tie.Need-loop-less Inv-loop μ-loop
-loop-less c = text-less _ (c .before .before .before .before .before .before .before .before .before .before .before .before .loop .inv .0) _ _ _ _ _ _ _ _ (c .before .before .before .before .before .before .before .before .before .before .before .before .loop .inv .2) _ (c .before .before .before .before .before .before .before .before .before .before .before .text-next .ensures) (c .before .before .before .before .before .before .before .before .before .before .if1 .taken)
+loop-less c = text-less _ (c .before .before .before .before .before .before .before .before .before .before .before .before .before .loop .inv .0) _ _ _ _ _ _ _ _ (c .before .before .before .before .before .before .before .before .before .before .before .before .before .loop .inv .2) _ (c .before .before .before .before .before .before .before .before .before .before .before .text-next .ensures) (c .before .before .before .before .before .before .before .before .before .before .if2 .taken)
 
 loop-again : tie.Need-loop-again Inv-loop μ-loop
-loop-again c = (c .before .before .before .before .before .before .before .before .before .before .before .before .loop .inv .0, c .before .before .before .before .before .before .before .before .before .before .before .before .loop .inv .1, telling-text _ (c .before .before .before .before .before .before .before .before .before .before .before .before .loop .inv .0) _ _ _ _ _ _ _ _ (c .before .before .before .before .before .before .before .before .before .before .before .before .loop .inv .2) _ _ _ _ _ (c .before .before .before .before .before .before .before .before .before .before .before .text-next .ensures) (c .before .before .before .before .before .before .before .before .before .before .if1 .taken) (c .before .before .before .before .before .before .before .typed-at .ensures) (c .before .before .before .before .before .marked .ensures) (c .before .before .write-one .ensures))
+loop-again c = (c .before .before .before .before .before .before .before .before .before .before .before .before .before .loop .inv .0, c .before .before .before .before .before .before .before .before .before .before .before .before .before .loop .inv .1, telling-text _ (c .before .before .before .before .before .before .before .before .before .before .before .before .before .loop .inv .0) _ _ _ _ _ _ _ _ (c .before .before .before .before .before .before .before .before .before .before .before .before .before .loop .inv .2) _ _ _ _ _ (c .before .before .before .before .before .before .before .before .before .before .before .text-next .ensures) (c .before .before .before .before .before .before .before .before .before .before .if2 .taken) (c .before .before .before .before .before .before .before .typed-at .ensures) (c .before .before .before .before .before .marked .ensures) (c .before .before .write-one .ensures))
 
 is-over-requires : tie.Need-is-over-requires Inv-loop μ-loop
 is-over-requires c κs = search needs
 
-same-length : tie.Need-same-length Inv-loop μ-loop
-same-length c = telling-long _ _ _ _ _ _ _ (c .before .before .before .before .loop .inv .2)
+same-length-2 : tie.Need-same-length-2 Inv-loop μ-loop
+same-length-2 c = telling-long _ _ _ _ _ _ _ (c .before .before .before .before .before .loop .inv .2)
 
-returns : tie.Need-returns Inv-loop μ-loop
-returns c = telling-over _ (c .before .before .before .before .loop .inv .0) _ _ _ _ _ _ (c .before .before .before .before .loop .inv .2) _ (c .before .is-over .ensures) (c .if2 .taken)
+returns-2 : tie.Need-returns-2 Inv-loop μ-loop
+returns-2 c = telling-over _ (c .before .before .before .before .before .loop .inv .0) _ _ _ _ _ _ (c .before .before .before .before .before .loop .inv .2) _ _ (c .before .is-over .ensures) (c .if3 .taken)
 
 read-item-requires : tie.Need-read-item-requires Inv-loop μ-loop
 read-item-requires c κs = search needs
@@ -69,13 +75,13 @@ enum-known-moving : tie.Need-enum-known-moving Inv-loop μ-loop
 enum-known-moving c = search needs
 
 write-done-requires : tie.Need-write-done-requires Inv-loop μ-loop
-write-done-requires c κs = (c .before .before .before .before .before .before .before .before .before .before .read-item .ensures .ordered, omega (arith, c .before .before .before .before .before .before .before .before .before .before .read-item .ensures .ended, c .before .before .before .before .before .before .before .before .before .before .read-item .ensures .inside, c .before .before .before .before .before .before .before .before .before .before .before .before .before .before .before .loop .inv .2 .inside), c .before .before .before .before .before .before .before .before .before .before .read-item .ensures .counted, c .before .before .before .before .before .before .before .before .before .before .before .before .before .before .before .loop .inv .0 .wide, seed-there _ (c .before .before .before .before .before .before .before .before .before .before .before .before .before .before .before .loop .inv .0) _ _ _ _ _ _ _ _ (c .before .before .before .before .before .before .before .before .before .before .before .before .before .before .before .loop .inv .2), telling-small _ (c .before .before .before .before .before .before .before .before .before .before .before .before .before .before .before .loop .inv .0) _ _ _ _ _ _ (c .before .before .before .before .before .before .before .before .before .before .before .before .before .before .before .loop .inv .2) (c .before .before .before .before .before .before .before .before .before .before .before .before .before .before .before .loop .inv .1))
+write-done-requires c κs = (c .before .before .before .before .before .before .before .before .before .before .read-item .ensures .ordered, omega (arith, c .before .before .before .before .before .before .before .before .before .before .read-item .ensures .ended, c .before .before .before .before .before .before .before .before .before .before .read-item .ensures .inside, c .before .before .before .before .before .before .before .before .before .before .before .before .before .before .before .before .loop .inv .2 .inside), c .before .before .before .before .before .before .before .before .before .before .read-item .ensures .counted, c .before .before .before .before .before .before .before .before .before .before .before .before .before .before .before .before .loop .inv .0 .wide, seed-there _ (c .before .before .before .before .before .before .before .before .before .before .before .before .before .before .before .before .loop .inv .0) _ _ _ _ _ _ _ _ (c .before .before .before .before .before .before .before .before .before .before .before .before .before .before .before .before .loop .inv .2), telling-small _ (c .before .before .before .before .before .before .before .before .before .before .before .before .before .before .before .before .loop .inv .0) _ _ _ _ _ _ (c .before .before .before .before .before .before .before .before .before .before .before .before .before .before .before .before .loop .inv .2) (c .before .before .before .before .before .before .before .before .before .before .before .before .before .before .before .before .loop .inv .1))
 
 loop-less-2 : tie.Need-loop-less-2 Inv-loop μ-loop
-loop-less-2 c = moves-less _ (c .before .before .before .before .before .before .before .before .before .before .before .before .before .before .before .before .before .before .loop .inv .0) _ _ _ _ _ _ _ _ (c .before .before .before .before .before .before .before .before .before .before .before .before .before .before .before .before .before .before .loop .inv .2) _ (c .before .before .before .before .before .before .before .before .before .before .before .before .before .before .before .is-over .ensures) (c .before .before .before .before .before .before .before .before .before .before .before .before .before .before .if2 .left) _ _ _ (c .before .before .before .before .before .before .before .before .before .before .before .before .before .read-item .ensures) (c .before .before .before .before .before .before .before .before .before .before .move-item .ensures) (c .before .before .before .before .before .before .before .before .moving .given .1)
+loop-less-2 c = moves-less _ (c .before .before .before .before .before .before .before .before .before .before .before .before .before .before .before .before .before .before .before .loop .inv .0) _ _ _ _ _ _ _ _ (c .before .before .before .before .before .before .before .before .before .before .before .before .before .before .before .before .before .before .before .loop .inv .2) _ (c .before .before .before .before .before .before .before .before .before .before .before .before .before .before .before .is-over .ensures) (c .before .before .before .before .before .before .before .before .before .before .before .before .before .before .if3 .left) _ _ _ (c .before .before .before .before .before .before .before .before .before .before .before .before .before .read-item .ensures) (c .before .before .before .before .before .before .before .before .before .before .move-item .ensures) (c .before .before .before .before .before .before .before .before .moving .given .1)
 
 loop-again-2 : tie.Need-loop-again-2 Inv-loop μ-loop
-loop-again-2 c = (c .before .before .before .before .before .before .before .before .before .before .before .before .before .before .before .before .before .before .loop .inv .0, c .before .before .before .before .before .before .before .before .before .before .before .before .before .before .before .before .before .before .loop .inv .1, telling-moves _ (c .before .before .before .before .before .before .before .before .before .before .before .before .before .before .before .before .before .before .loop .inv .0) _ _ _ _ _ _ _ _ (c .before .before .before .before .before .before .before .before .before .before .before .before .before .before .before .before .before .before .loop .inv .2) _ (c .before .before .before .before .before .before .before .before .before .before .before .before .before .before .before .is-over .ensures) (c .before .before .before .before .before .before .before .before .before .before .before .before .before .before .if2 .left) _ _ _ (c .before .before .before .before .before .before .before .before .before .before .before .before .before .read-item .ensures) (c .before .before .before .before .before .before .before .before .before .before .move-item .ensures) (c .before .before .before .before .before .before .before .before .moving .given .1) _ _ (c .before .before .write-done .ensures))
+loop-again-2 c = (c .before .before .before .before .before .before .before .before .before .before .before .before .before .before .before .before .before .before .before .loop .inv .0, c .before .before .before .before .before .before .before .before .before .before .before .before .before .before .before .before .before .before .before .loop .inv .1, telling-moves _ (c .before .before .before .before .before .before .before .before .before .before .before .before .before .before .before .before .before .before .before .loop .inv .0) _ _ _ _ _ _ _ _ (c .before .before .before .before .before .before .before .before .before .before .before .before .before .before .before .before .before .before .before .loop .inv .2) _ (c .before .before .before .before .before .before .before .before .before .before .before .before .before .before .before .is-over .ensures) (c .before .before .before .before .before .before .before .before .before .before .before .before .before .before .if3 .left) _ _ _ (c .before .before .before .before .before .before .before .before .before .before .before .before .before .read-item .ensures) (c .before .before .before .before .before .before .before .before .before .before .move-item .ensures) (c .before .before .before .before .before .before .before .before .moving .given .1) _ _ (c .before .before .write-done .ensures))
 
 enum-told : tie.Need-enum-told Inv-loop μ-loop
 enum-told c = search needs
@@ -90,16 +96,16 @@ part-do-item-end : tie.Need-part-do-item-end Inv-loop μ-loop
 part-do-item-end c = search needs
 
 do-item-requires : tie.Need-do-item-requires Inv-loop μ-loop
-do-item-requires c κs = ((c .before .before .before .before .before .before .before .before .before .before .before .loop .inv .0 .wide, c .before .before .before .before .before .before .before .before .before .before .before .loop .inv .0 .high, c .before .before .before .before .before .before .before .before .before .before .before .loop .inv .2 .sound .core .seed), (c .before .before .before .before .before .before .read-item .ensures .ordered, omega (arith, c .before .before .before .before .before .before .read-item .ensures .ended, c .before .before .before .before .before .before .read-item .ensures .inside, c .before .before .before .before .before .before .before .before .before .before .before .loop .inv .2 .inside)))
+do-item-requires c κs = ((c .before .before .before .before .before .before .before .before .before .before .before .before .loop .inv .0 .wide, c .before .before .before .before .before .before .before .before .before .before .before .before .loop .inv .0 .high, c .before .before .before .before .before .before .before .before .before .before .before .before .loop .inv .2 .sound .core .seed), (c .before .before .before .before .before .before .read-item .ensures .ordered, omega (arith, c .before .before .before .before .before .before .read-item .ensures .ended, c .before .before .before .before .before .before .read-item .ensures .inside, c .before .before .before .before .before .before .before .before .before .before .before .before .loop .inv .2 .inside)))
 
 write-done-requires-2 : tie.Need-write-done-requires-2 Inv-loop μ-loop
-write-done-requires-2 c κs = (c .before .before .before .before .before .before .before .before .before .before .before .before .before .before .before .read-item .ensures .ordered, omega (arith, c .before .before .before .before .before .before .before .before .before .before .before .before .before .before .before .read-item .ensures .ended, c .before .before .before .before .before .before .before .before .before .before .before .before .before .before .before .read-item .ensures .inside, c .before .before .before .before .before .before .before .before .before .before .before .before .before .before .before .before .before .before .before .before .loop .inv .2 .inside), c .before .before .before .before .before .before .before .before .before .before .before .before .before .before .before .read-item .ensures .counted, c .before .before .before .before .before .before .before .before .before .before .before .before .before .before .before .before .before .before .before .before .loop .inv .0 .wide, telling-seed _ (c .before .before .before .before .before .before .before .before .before .before .before .before .before .before .before .before .before .before .before .before .loop .inv .0) _ _ _ _ _ _ (c .before .before .before .before .before .before .before .before .before .before .before .before .before .before .before .before .before .before .before .before .loop .inv .2) _ (c .before .before .before .before .before .before .before .before .before .before .before .before .before .before .before .before .before .is-over .ensures) (c .before .before .before .before .before .before .before .before .before .before .before .before .before .before .before .before .if2 .left) _ _ _ _ (c .before .before .before .before .before .before .before .before .before .before .before .before .before .before .before .read-item .ensures) (c .before .before .before .before .before .before .before .before .do-item .ensures), telling-small _ (c .before .before .before .before .before .before .before .before .before .before .before .before .before .before .before .before .before .before .before .before .loop .inv .0) _ _ _ _ _ _ (c .before .before .before .before .before .before .before .before .before .before .before .before .before .before .before .before .before .before .before .before .loop .inv .2) (c .before .before .before .before .before .before .before .before .before .before .before .before .before .before .before .before .before .before .before .before .loop .inv .1))
+write-done-requires-2 c κs = (c .before .before .before .before .before .before .before .before .before .before .before .before .before .before .before .read-item .ensures .ordered, omega (arith, c .before .before .before .before .before .before .before .before .before .before .before .before .before .before .before .read-item .ensures .ended, c .before .before .before .before .before .before .before .before .before .before .before .before .before .before .before .read-item .ensures .inside, c .before .before .before .before .before .before .before .before .before .before .before .before .before .before .before .before .before .before .before .before .before .loop .inv .2 .inside), c .before .before .before .before .before .before .before .before .before .before .before .before .before .before .before .read-item .ensures .counted, c .before .before .before .before .before .before .before .before .before .before .before .before .before .before .before .before .before .before .before .before .before .loop .inv .0 .wide, telling-seed _ (c .before .before .before .before .before .before .before .before .before .before .before .before .before .before .before .before .before .before .before .before .before .loop .inv .0) _ _ _ _ _ _ (c .before .before .before .before .before .before .before .before .before .before .before .before .before .before .before .before .before .before .before .before .before .loop .inv .2) _ (c .before .before .before .before .before .before .before .before .before .before .before .before .before .before .before .before .before .is-over .ensures) (c .before .before .before .before .before .before .before .before .before .before .before .before .before .before .before .before .if3 .left) _ _ _ _ (c .before .before .before .before .before .before .before .before .before .before .before .before .before .before .before .read-item .ensures) (c .before .before .before .before .before .before .before .before .do-item .ensures), telling-small _ (c .before .before .before .before .before .before .before .before .before .before .before .before .before .before .before .before .before .before .before .before .before .loop .inv .0) _ _ _ _ _ _ (c .before .before .before .before .before .before .before .before .before .before .before .before .before .before .before .before .before .before .before .before .before .loop .inv .2) (c .before .before .before .before .before .before .before .before .before .before .before .before .before .before .before .before .before .before .before .before .before .loop .inv .1))
 
 loop-less-3 : tie.Need-loop-less-3 Inv-loop μ-loop
-loop-less-3 c = telling-less _ (c .before .before .before .before .before .before .before .before .before .before .before .before .before .before .before .before .before .before .before .before .before .before .before .loop .inv .0) _ _ _ _ _ _ (c .before .before .before .before .before .before .before .before .before .before .before .before .before .before .before .before .before .before .before .before .before .before .before .loop .inv .2) _ (c .before .before .before .before .before .before .before .before .before .before .before .before .before .before .before .before .before .before .before .before .is-over .ensures) (c .before .before .before .before .before .before .before .before .before .before .before .before .before .before .before .before .before .before .before .if2 .left) _ _ _ _ (c .before .before .before .before .before .before .before .before .before .before .before .before .before .before .before .before .before .before .read-item .ensures) (c .before .before .before .before .before .before .before .before .before .before .before .do-item .ensures)
+loop-less-3 c = telling-less _ (c .before .before .before .before .before .before .before .before .before .before .before .before .before .before .before .before .before .before .before .before .before .before .before .before .loop .inv .0) _ _ _ _ _ _ (c .before .before .before .before .before .before .before .before .before .before .before .before .before .before .before .before .before .before .before .before .before .before .before .before .loop .inv .2) _ (c .before .before .before .before .before .before .before .before .before .before .before .before .before .before .before .before .before .before .before .before .is-over .ensures) (c .before .before .before .before .before .before .before .before .before .before .before .before .before .before .before .before .before .before .before .if3 .left) _ _ _ _ (c .before .before .before .before .before .before .before .before .before .before .before .before .before .before .before .before .before .before .read-item .ensures) (c .before .before .before .before .before .before .before .before .before .before .before .do-item .ensures)
 
 loop-again-3 : tie.Need-loop-again-3 Inv-loop μ-loop
-loop-again-3 c = (c .before .before .before .before .before .before .before .before .before .before .before .before .before .before .before .before .before .before .before .before .before .before .before .loop .inv .0, c .before .before .before .before .before .before .before .before .before .before .before .before .before .before .before .before .before .before .before .before .before .before .before .loop .inv .1, telling-more _ (c .before .before .before .before .before .before .before .before .before .before .before .before .before .before .before .before .before .before .before .before .before .before .before .loop .inv .0) _ _ _ _ _ _ (c .before .before .before .before .before .before .before .before .before .before .before .before .before .before .before .before .before .before .before .before .before .before .before .loop .inv .2) _ (c .before .before .before .before .before .before .before .before .before .before .before .before .before .before .before .before .before .before .before .before .is-over .ensures) (c .before .before .before .before .before .before .before .before .before .before .before .before .before .before .before .before .before .before .before .if2 .left) _ _ _ _ (c .before .before .before .before .before .before .before .before .before .before .before .before .before .before .before .before .before .before .read-item .ensures) (c .before .before .before .before .before .before .before .before .before .before .before .do-item .ensures) (c .before .before .before .before .before .before .before .before .before .before .before .do-item .last .0) _ _ (c .before .before .before .before .before .before .before .before .before .before .room3 .given .0) (c .before .before .write-done2 .ensures))
+loop-again-3 c = (c .before .before .before .before .before .before .before .before .before .before .before .before .before .before .before .before .before .before .before .before .before .before .before .before .loop .inv .0, c .before .before .before .before .before .before .before .before .before .before .before .before .before .before .before .before .before .before .before .before .before .before .before .before .loop .inv .1, telling-more _ (c .before .before .before .before .before .before .before .before .before .before .before .before .before .before .before .before .before .before .before .before .before .before .before .before .loop .inv .0) _ _ _ _ _ _ (c .before .before .before .before .before .before .before .before .before .before .before .before .before .before .before .before .before .before .before .before .before .before .before .before .loop .inv .2) _ (c .before .before .before .before .before .before .before .before .before .before .before .before .before .before .before .before .before .before .before .before .is-over .ensures) (c .before .before .before .before .before .before .before .before .before .before .before .before .before .before .before .before .before .before .before .if3 .left) _ _ _ _ (c .before .before .before .before .before .before .before .before .before .before .before .before .before .before .before .before .before .before .read-item .ensures) (c .before .before .before .before .before .before .before .before .before .before .before .do-item .ensures) (c .before .before .before .before .before .before .before .before .before .before .before .do-item .last .0) _ _ (c .before .before .before .before .before .before .before .before .before .before .room3 .given .0) (c .before .before .write-done2 .ensures))
 
 pub walk-spec : {M : Type 1} → statement M
 walk-spec =
@@ -109,6 +115,8 @@ walk-spec =
     μ-loop
     afresh-requires
     loop-holds
+    same-length
+    returns
     text-next-requires
     typed-at-requires
     shared-slice-read-marked
@@ -119,8 +127,8 @@ walk-spec =
     loop-less
     loop-again
     is-over-requires
-    same-length
-    returns
+    same-length-2
+    returns-2
     read-item-requires
     move-item-requires
     enum-known-moving
