@@ -9,9 +9,8 @@ proves facts of it is checked. An edit in tests/edits has the lines
     file:, old:, new:   as in a must-fail edit; old stands in the file once
     error: TEXT         the first error must hold this text: the fact that fails
 
-The crates are copied to a folder of their own and proved there first; edits are tried in copies of that, side by side. A line for each
-edit, then the counts; exit status 1 if
-the copy is not proved, an edit does not apply, is not refused, or is refused for another reason.
+The crates are copied to a folder of their own, with what rt has proved of them; what is not proved is proved there first. Edits are tried in
+copies of that, side by side. A line for each edit, then the counts; exit status 1 if the copy is not proved, an edit does not apply, is not refused, or is refused for another reason.
 """
 import concurrent.futures
 import os
@@ -54,6 +53,15 @@ def edit_of(path):
     return parts, missing
 
 
+def take_over(folder, name):
+    """Copies what rt keeps of a proved crate. By its stamp rt itself sees whether it is of these very files."""
+    library, stamp = (os.path.join(ROOT, "target", *parts) for parts in (("rlib", name + ".rlib"), ("stamp", name)))
+    if os.path.isdir(library) and os.path.isfile(stamp):
+        shutil.copytree(library, os.path.join(folder, "target", "rlib", name + ".rlib"))
+        os.makedirs(os.path.join(folder, "target", "stamp"), exist_ok=True)
+        shutil.copy(stamp, os.path.join(folder, "target", "stamp", name))
+
+
 def check(folder, name):
     done = subprocess.run(["rt", "check", name], cwd=folder, stdout=subprocess.PIPE, stderr=subprocess.STDOUT,
                           env=dict(os.environ, LC_ALL="C", RT_CUT="0"))
@@ -92,6 +100,7 @@ def main():
         for name in wanted:
             source, target = os.path.join(ROOT, "crates", name), os.path.join(folder, "crates", name)
             shutil.copytree(source, target, ignore=shutil.ignore_patterns("must-fail"))
+            take_over(folder, name)
         with open(os.path.join(folder, "crates.txt"), "w", encoding="utf-8") as out:
             for name in lines:
                 if name in wanted:

@@ -23,7 +23,7 @@ import sys
 
 ROOT = sys.argv[1] if len(sys.argv) > 1 else "."
 LEAST_ROWS = 300
-FUNCTION_WORDS = {"with the translator", "later", "law", "no rule", "all public ones"}
+FUNCTION_WORDS = {"later", "law", "no rule", "all public ones"}
 TEST_WORDS = {"later", "no rule", "by eye"}
 
 

@@ -10,17 +10,17 @@ ghost use Rattle.rules.specs.Sound.{sound};
 ghost use Rattle.kept.specs.Kept.{stateAt};
 ghost use Rattle.rules.specs.Findings.{verdictNumber};
 ghost use Rattle.door.specs.Answers.{MadeAfresh, ranNumber, keptAfter, flagged, Answered, ToldPlain};
+use fresh::afresh;
 use kept::read_state;
-use kept::write_state;
 use numbered::finding_number;
 use numbered::refusal_number;
 use rules::Ran;
 use rules::Refusal;
 use rules::Verdict;
-use state::afresh;
+use soundness::sound;
 use state::allowed;
 use state::measure_of;
-use state::sound;
+use stored::write_state;
 
 // The state afresh, for a page of w by h dots.
 #[no_mangle]

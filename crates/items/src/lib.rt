@@ -260,7 +260,7 @@ fn paint_row(page: &mut [u8], g: Measure, row: &[u8], r: Raster, y: u32)
     let dots = dots_of(r.resolution);
     let from = (r.margin / 24) as usize;
     let line = (y / 24) as usize;
-    dots::paint(page, wide, &row[0..wide], dots, from, line);
+    paint::paint(page, wide, &row[0..wide], dots, from, line);
 }
 
 // The finding of a row: 7 where it is damaged.

@@ -10,7 +10,7 @@ use Rattle.rules.specs.Plain.{putValue}
 use Rattle.rules.specs.declared.Sequence.{Sequence}
 use Rattle.reader.specs.declared.ReadItem.{ReadItem}
 use Rattle.reader.specs.Items.{readAt}
-use Rattle.leaves.specs.Fields.{field, opened, valueOf}
+use Rattle.fields.specs.Fields.{field, opened, valueOf}
 
 -- a number of what was given is that number of what it equals
 pub passed : {A : Type 0} (f : A → ℕ) (x y : A) (r : ℕ) → y ≡ x → r ≡ f y → r ≡ f x

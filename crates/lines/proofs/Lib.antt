@@ -1,2 +1,2 @@
-pub mod Texts
+-- The laws of this crate.
 pub mod Writing

@@ -1,4 +1,2 @@
--- The laws of this crate; `Laws` is for its callers too.
-pub mod Laws
+-- The laws of this crate.
 pub mod Reading
-pub mod Writing

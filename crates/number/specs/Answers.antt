@@ -42,10 +42,3 @@ relativeAt negative n = record { value = Relative negative (n .number); next = n
 -- a size with no sign
 abbrev pub absoluteAt : NumberAt → ValueAt
 absoluteAt n = record { value = Absolute (n .number); next = n .next }
-
--- the length of a text, which is at most top
-pub record Counted (text : List ℕ) (top r : ℕ) : Type 0 where
-  -- the length
-  pub is : r ≡ length text
-  -- its bound
-  pub small : r ≤ top

@@ -36,8 +36,9 @@ use Rattle.rules.specs.Acts.{type, control, escape, order, print, draw, drawn, 
 use Rattle.rules.specs.Plain.{put, putAll}
 use Rattle.theorems.specs.Facts.{Shaped}
 use Rattle.theorems.proofs.Lengths.{seed-long, decoded-length}
-use Rattle.plainly.specs.Plain.{headOf}
-use Rattle.plainly.proofs.Writing.{order-append, print-append, row-append}
+use Rattle.heads.specs.Heads.{headOf}
+use Rattle.heads.proofs.Heads.{print-append, row-append}
+use Rattle.plainly.proofs.Writing.{order-append}
 use Rattle.plainitem.specs.Plain.{carriedCodes, plainBytes, plainCommand, plainItem}
 use Rattle.reader.specs.declared.Item.the-variants as found
 

@@ -27,9 +27,9 @@ use Rattle.reader.specs.declared.Item.{Item}
 use Rattle.reader.specs.declared.Item.the-variants as found
 use Rattle.reader.specs.Items.{itemIn, fromOf, toOf}
 use Rattle.reader.proofs.Item.{the-type}
-use Rattle.number.specs.Answers.{Counted}
-use Rattle.plainly.specs.Plain.{headOf, HeadLength}
-use Rattle.plainly.proofs.Writing.{print-append, row-append}
+use Rattle.lengths.specs.Counts.{Counted}
+use Rattle.heads.specs.Heads.{headOf, HeadLength}
+use Rattle.heads.proofs.Heads.{print-append, row-append}
 use Rattle.plainitem.specs.Plain.{Puts, PutsShort, carriedCodes, plainBytes, plainCommand, plainItem}
 use Rattle.plainitem.proofs.Trimming.{trim-take}
 

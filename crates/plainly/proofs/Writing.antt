@@ -5,29 +5,18 @@ use mathlib.Core.List.{List, [], _∷_, _++_}
 use Prim.Native.Nat.{ℕ, _+_}
 use native.Mathlib.Omega.{arith}
 use lib.ListN.{length, length-append}
-use Rattle.common.specs.Lists.{trim}
 use Rattle.common.specs.Stores.{Wrote}
 use Rattle.common.proofs.Stores.{wrote-both}
 use Rattle.rules.specs.declared.Value.{Value}
 use Rattle.rules.specs.declared.Kind.{Kind}
-use Rattle.rules.specs.Commands.{Spelling, spelling, spelled, printSpelled, rowSpelled, useOf}
-use Rattle.rules.specs.Acts.{order, print, draw}
-use Rattle.rules.specs.Plain.{decimal, putValue, isIgnored, put, putCounted}
-use Rattle.number.specs.Answers.{Counted}
-use Rattle.number.proofs.Laws.{decimal-append, value-append, used-append}
+use Rattle.rules.specs.Commands.{spelled, useOf}
+use Rattle.rules.specs.Acts.{order}
+use Rattle.rules.specs.Plain.{putValue, isIgnored, put}
+use Rattle.lengths.specs.Counts.{Counted}
+use Rattle.written.proofs.Laws.{value-append, used-append}
+use Rattle.heads.proofs.Heads.{wrote-through}
 use Rattle.plainly.specs.declared.Named.{Named}
-use Rattle.plainly.specs.Plain.{named, headOf, HeadLength}
-
-module _ {l l1 l2 l3 : List ℕ} {at a b r : ℕ} where
-  -- three bytes, one behind another
-  pub wrote-three : {x y z : ℕ} → Wrote l at (x ∷ []) l1 a → Wrote l1 a (y ∷ []) l2 b → Wrote l2 b (z ∷ []) l3 r → Wrote l at (x ∷ y ∷ z ∷ []) l3 r
-  wrote-three p q s = wrote-both (wrote-both p q) s
-
-  -- three bytes, a text and a letter
-  wrote-through : {x y z c : ℕ} (u : List ℕ) → Wrote l at (x ∷ y ∷ z ∷ []) l1 a → Wrote l1 a u l2 b → Wrote l2 b (c ∷ []) l3 r → Wrote l at (x ∷ y ∷ z ∷ (u ++ (c ∷ []))) l3 r
-  wrote-through u p q s = wrote-both (wrote-both p q) s
-
--- ---- a command with its value
+use Rattle.plainly.specs.Plain.{named}
 
 module _ (k : Kind) (v : Value) (n : Named) (e : n ≡ named k) where
   -- the text of a command that is written with its value
@@ -70,44 +59,7 @@ module _ (k : Kind) (v : Value) (n : Named) (e : n ≡ named k) where
   pub length-bare : n .3 ≡ false → Counted (put (order k v) []) 30 4
   length-bare h = record { is = rw (← text-bare h); small = omega arith }
 
--- ---- the head of a command with payload
-
--- the count is written before the letter
-head-text : (p : Spelling) (n : ℕ) → 27 ∷ p .first ∷ p .group ∷ (decimal n [] ++ (p .letter ∷ [])) ≡ headOf p n
-unfolding headOf
-head-text p n = ap (λ (s : List ℕ). 27 ∷ p .first ∷ p .group ∷ s) (sym (decimal-append n [] (p .letter ∷ [])))
-
--- a head is written
-pub wrote-head : {l l1 l2 l3 : List ℕ} {at a b r : ℕ} (f g c n : ℕ) → Wrote l at (27 ∷ f ∷ g ∷ []) l1 a → Wrote l1 a (decimal n []) l2 b → Wrote l2 b (c ∷ []) l3 r
-    → Wrote l at (headOf (spelling f g c) n) l3 r
-wrote-head f g c n p q s = rw (head-text (spelling f g c) n) at (wrote-through (decimal n []) p q s)
-
--- the length of a head, whatever its letters
-length-head : (p : Spelling) (n m : ℕ) → m ≡ length (decimal n []) → 4 + m ≡ length (headOf p n)
-length-head p n m e = let f = length-append (decimal n []) (p .letter ∷ []) in rw (← head-text p n) (omega arith)
-
--- the length of both heads
-pub head-counted : (n m : ℕ) → Counted (decimal n []) 20 m → HeadLength n (4 + m)
-head-counted n m c = record { print = length-head printSpelled n m (c .is); row = length-head rowSpelled n m (c .is); small = omega (arith, c .small) }
-
--- ---- for the writer of a whole stream: what stands behind a command does not change its text
-
--- a command is its text, and what stands behind
+-- for the writer of a whole stream: a command is its text, and what stands behind
 pub order-append : (k : Kind) (v : Value) (s : List ℕ) → put (order k v) s ≡ put (order k v) [] ++ s
 unfolding put
 order-append k v s = ap (λ (t : List ℕ). 27 ∷ spelled k .first ∷ spelled k .group ∷ t) (used-append k v (spelled k .letter ∷ []) s)
-
--- a command with payload is its head, the payload, and what stands behind
-counted-append : (p : Spelling) (b s : List ℕ) → putCounted p b s ≡ headOf p (length b) ++ (b ++ s)
-unfolding headOf
-counted-append p b s = ap (λ (t : List ℕ). 27 ∷ p .first ∷ p .group ∷ t) (decimal-append (length b) (p .letter ∷ []) (b ++ s))
-
--- printed text is a head, the payload, and what stands behind
-pub print-append : (b s : List ℕ) → put (print b) s ≡ headOf printSpelled (length b) ++ (b ++ s)
-unfolding put
-print-append b s = counted-append printSpelled b s
-
--- a row is a head, its bytes up to the last nonzero one, and what stands behind
-pub row-append : (b s : List ℕ) → put (draw b) s ≡ headOf rowSpelled (length (trim b)) ++ (trim b ++ s)
-unfolding put
-row-append b s = counted-append rowSpelled (trim b) s

@@ -1,15 +1,15 @@
 // Commands written plain: each as its own sequence, ended by a capital. Where the room ends, writing ends; nothing is written outside it.
-use number::put_byte;
+use heads::write_start;
 use rules::Kind;
 use rules::Value;
+use written::put_byte;
 ghost use mathlib.Core.Path.{_≡_};
-ghost use mathlib.Core.List.{List, [], _∷_};
+ghost use mathlib.Core.List.{[]};
 ghost use Rattle.common.specs.Stores.{Wrote};
-ghost use Rattle.rules.specs.Commands.{spelling, printSpelled, rowSpelled};
 ghost use Rattle.rules.specs.Acts.{order};
 ghost use Rattle.rules.specs.Plain.{put};
-ghost use Rattle.number.specs.Answers.{Counted};
-ghost use Rattle.plainly.specs.Plain.{named, headOf, HeadLength};
+ghost use Rattle.lengths.specs.Counts.{Counted};
+ghost use Rattle.plainly.specs.Plain.{named};
 
 // The three bytes that name a command, and whether a value is written among them.
 struct Named(u8, u8, u8, bool);
@@ -41,15 +41,6 @@ fn name_of(k: Kind) -> Named
     }
 }
 
-// ESC, a first byte and a group byte, written at a place; the next place is given.
-fn write_start(first: u8, group: u8, room: &mut [u8], at: usize) -> usize
-    ensures { λ r. ⌜ Wrote (now (room .entry)) at (27 ∷ first ∷ group ∷ []) (now (room .exit)) r ⌝ }
-{
-    let second = put_byte(27, room, at);
-    let third = put_byte(first, room, second);
-    put_byte(group, room, third)
-}
-
 // A command with its value, written at a place; the next place is given.
 pub fn write_command(k: Kind, v: Value, room: &mut [u8], at: usize) -> usize
     ensures { λ r. ⌜ Wrote (now (room .entry)) at (put (order k v) []) (now (room .exit)) r ⌝ }
@@ -58,7 +49,7 @@ pub fn write_command(k: Kind, v: Value, room: &mut [u8], at: usize) -> usize
     let letter = by.2;
     let behind = write_start(by.0, by.1, room, at);
     if by.3 {
-        let end = number::write_value(v, room, behind);
+        let end = written::write_value(v, room, behind);
         return put_byte(letter, room, end);
     }
     put_byte(letter, room, behind)
@@ -70,37 +61,7 @@ pub fn command_length(k: Kind, v: Value) -> usize
 {
     let name = name_of(k);
     if name.3 {
-        return 4 + number::value_length(v);
+        return 4 + lengths::value_length(v);
     }
     4
-}
-
-// The head of a command with n bytes of payload, written at a place; the next place is given.
-fn write_head(first: u8, group: u8, letter: u8, n: usize, room: &mut [u8], at: usize) -> usize
-    ensures { λ r. ⌜ Wrote (now (room .entry)) at (headOf (spelling first group letter) n) (now (room .exit)) r ⌝ }
-{
-    let behind = write_start(first, group, room, at);
-    let end = number::write_decimal(n, room, behind);
-    put_byte(letter, room, end)
-}
-
-// The head of &p#X for n bytes of payload.
-pub fn write_print_head(n: usize, room: &mut [u8], at: usize) -> usize
-    ensures { λ r. ⌜ Wrote (now (room .entry)) at (headOf printSpelled n) (now (room .exit)) r ⌝ }
-{
-    write_head(b'&', b'p', b'X', n, room, at)
-}
-
-// The head of *b#W for n bytes of payload.
-pub fn write_row_head(n: usize, room: &mut [u8], at: usize) -> usize
-    ensures { λ r. ⌜ Wrote (now (room .entry)) at (headOf rowSpelled n) (now (room .exit)) r ⌝ }
-{
-    write_head(b'*', b'b', b'W', n, room, at)
-}
-
-// The length of such a head.
-pub fn head_length(n: usize) -> usize
-    ensures { λ r. ⌜ HeadLength n r ⌝ }
-{
-    4 + number::decimal_length(n)
 }

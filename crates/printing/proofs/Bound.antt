@@ -20,7 +20,7 @@ use Rattle.rules.specs.Findings.{findingNumber, isClean}
 use Rattle.rules.specs.Plain.{decimalUpTo, decimal}
 use Rattle.rules.specs.Acts.{World, world, step, over, showAll}
 use Rattle.rules.specs.Report.{fields, line, SIZE, REFUSED, reportWidth, reportHeight, reportLimit, reportPage, report, PAGE, END, fault, pageLines, lastLines}
-use Rattle.number.proofs.Laws.{decimal-append, decimal-short}
+use Rattle.written.proofs.Laws.{decimal-append, decimal-short}
 use Rattle.theorems.proofs.Reading.{left, left-zero}
 use Rattle.theorems.proofs.Streams.{step-left}
 use Rattle.theorems.proofs.Suffixes.{step-took}

@@ -27,7 +27,7 @@ use Rattle.theorems.proofs.Measures.{allowed-gives}
 use Rattle.theorems.proofs.Lengths.{fresh-shaped}
 use Rattle.theorems.proofs.Runs.{run-shaped}
 use Rattle.theorems.proofs.Theorems.{afresh-is-sound}
-use Rattle.lines.proofs.Texts.{line-append, cond-append}
+use Rattle.line.proofs.Texts.{line-append, cond-append}
 use Rattle.printing.specs.Left.{drawn, linesLeft, counted, printed, streamLines}
 use Rattle.printing.proofs.Items.{left-whole, left-over}
 use Rattle.printing.proofs.Printing.{behind, Prints, run-prints, run-over, run-nothing}

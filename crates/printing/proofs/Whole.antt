@@ -11,7 +11,7 @@ use Rattle.common.proofs.Stores.{wrote-both}
 use Rattle.rules.specs.declared.Refusal.the-variants.{StreamLength}
 use Rattle.rules.specs.Findings.{refusalNumber}
 use Rattle.rules.specs.Report.{line, SIZE, REFUSED, reportLimit, reportWidth, reportHeight, reportPage, report}
-use Rattle.lines.proofs.Texts.{line-append}
+use Rattle.line.proofs.Texts.{line-append}
 use Rattle.printing.specs.Left.{streamLines}
 use Rattle.printing.specs.Bound.{longestReport, Reported}
 use Rattle.printing.proofs.Bound.{reports-fit}

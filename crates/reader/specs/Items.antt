@@ -1,24 +1,17 @@
 -- An item of the rules, found at a place of the stream: payload is a part of it, from a place up to another.
 use mathlib.Core.Path.{_≡_}
-use mathlib.Core.Bool.{cond, _&&_}
 use mathlib.Core.List.{List}
 use Prim.Native.Nat.{ℕ, _+_, _-_, _≤_, max}
-use lib.Dec.{ltb}
 use lib.ListN.{length, take, drop}
-use Rattle.common.specs.Choice.{within}
-use Rattle.rules.specs.declared.Value.{Value}
 use Rattle.rules.specs.declared.Sequence.{Sequence}
-use Rattle.rules.specs.declared.Sequence.the-variants.{Closed, Open}
 use Rattle.rules.specs.declared.Command.{Command}
 use Rattle.rules.specs.declared.Command.the-variants.{Valued, Method, Print, Row, Unknown}
-use Rattle.rules.specs.Number.{sizeOf, count}
+use Rattle.rules.specs.Number.{sizeOf}
 use Rattle.rules.specs.Items as rule
 use Rattle.rules.specs.Items.{Reading, read}
 use Rattle.reader.specs.declared.Item.{Item}
 use Rattle.reader.specs.declared.Item.the-variants as found
 use Rattle.reader.specs.declared.ReadItem.{ReadItem}
-use Rattle.reader.specs.declared.Ending.{Ending}
-use Rattle.reader.specs.declared.Ending.the-variants.{Letter, NoLetter}
 
 -- an item that ends at n: its payload is what lies before n
 abbrev pub itemTo : ℕ → rule.Item → Item
@@ -47,15 +40,6 @@ itemIn s (found.Code b) = rule.code b
 itemIn s (found.Two b) = rule.two b
 itemIn s (found.Command k from to) = rule.command k (take (to - from) (drop from s))
 itemIn s (found.Broken f) = rule.broken f
-
--- the payload bytes that a command asks for: "none if negative"
-abbrev pub asked : ℕ → ℕ → ℕ → Value → ℕ
-asked f g l v = cond (rule.hasPayload f g l) (count v) 0
-
--- "64..94 ends the sequence; 96..126 is a command (read as its capital) and keeps the sequence open with the same two bytes.
--- Without a group, 96..126 there breaks the sequence."
-abbrev pub ending : ℕ → ℕ → ℕ → Ending
-ending f g b = cond (within 64 94 b) (Letter b Closed) (cond (within 96 126 b && ltb 0 g) (Letter (b - 32) (Open f g)) NoLetter)
 
 -- where a command's payload begins
 abbrev pub fromOf : Item → ℕ

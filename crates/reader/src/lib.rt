@@ -1,6 +1,9 @@
 // Reading one item of a PCL stream at a place of it. Nothing is refused: what cannot be read is a broken piece, with finding 1 or 2.
 // No state is seen but the open sequence.
 use choice::choose;
+use letters::Ending;
+use letters::asked_by;
+use letters::ending_of;
 use rules::Command;
 use rules::Finding;
 use rules::Sequence;
@@ -8,9 +11,8 @@ use rules::Value;
 ghost use mathlib.Core.Path.{_≡_};
 ghost use Prim.Native.Nat.{_≤_, _<_};
 ghost use lib.ListN.{length, drop};
-ghost use Rattle.rules.specs.Number.{count};
-ghost use Rattle.rules.specs.Items.{endsInside, hasPayload, payload, letter, parameter, group, behindEscape, read};
-ghost use Rattle.reader.specs.Items.{upTo, asked, ending, ItemAt};
+ghost use Rattle.rules.specs.Items.{endsInside, payload, letter, parameter, group, behindEscape, read};
+ghost use Rattle.reader.specs.Items.{upTo, ItemAt};
 
 // An item: text, a control code, a two-byte command, a command whose payload lies in the stream, or a broken piece.
 pub enum Item {
@@ -30,45 +32,6 @@ pub struct ReadItem {
     pub item: Item,
     pub sequence: Sequence,
     pub next: usize,
-}
-
-// What a byte behind a value is: a command's letter, as a capital, with the sequence that is open behind it; or none.
-enum Ending {
-    Letter { capital: u8, behind: Sequence },
-    NoLetter,
-}
-
-// The count of payload bytes that a value asks for: none if negative.
-fn count_of(v: Value) -> usize
-    ensures { λ r. ⌜ r ≡ count v ⌝ }
-{
-    match v {
-        Value::Absolute(n) => (n / 10000) as usize,
-        Value::Relative { negative, size } => if negative { 0 } else { (size / 10000) as usize },
-    }
-}
-
-// Payload follows every W, &p#X and *b#V.
-fn has_payload(first: u8, group: u8, letter: u8) -> bool
-    ensures { λ r. ⌜ r ≡ hasPayload first group letter ⌝ }
-{
-    match letter {
-        b'W' => true,
-        b'X' => first == b'&' && group == b'p',
-        b'V' => first == b'*' && group == b'b',
-        _ => false,
-    }
-}
-
-// The payload bytes that a command asks for.
-fn asked_by(first: u8, group: u8, letter: u8, v: Value) -> usize
-    ensures { λ r. ⌜ r ≡ asked first group letter v ⌝ }
-{
-    if has_payload(first, group, letter) {
-        count_of(v)
-    } else {
-        0
-    }
 }
 
 // The stream ends inside a sequence, or payload is short: all bytes are taken.
@@ -109,29 +72,6 @@ fn payload_at(
         },
         sequence: q,
         next: to,
-    }
-}
-
-// How a byte ends a command of this sequence.
-fn ending_of(first: u8, group: u8, b: u8) -> Ending
-    ensures { λ r. ⌜ r ≡ ending first group b ⌝ }
-{
-    match b {
-        64..=94 => Ending::Letter {
-            capital: b,
-            behind: Sequence::Closed,
-        },
-        96..=126 => {
-            if 0 < group {
-                Ending::Letter {
-                    capital: b - 32,
-                    behind: Sequence::Open { first, group },
-                }
-            } else {
-                Ending::NoLetter
-            }
-        }
-        _ => Ending::NoLetter,
     }
 }
 

@@ -1,17 +1,17 @@
 // The report of a stream, written into a room that is lent: its lines in item order, as successive runs find them.
 // Nothing is refused: a stream over the program's limit has a report that says so, and what has no room is not written.
 ghost use mathlib.Core.Path.{_≡_};
-ghost use mathlib.Core.Bool.{cond};
 ghost use mathlib.Core.List.{[]};
 ghost use Prim.Native.Nat.{_≤_};
 ghost use lib.ListN.{length};
 ghost use Rattle.common.specs.Stores.{Wrote};
 ghost use Rattle.rules.specs.States.{afresh};
 ghost use Rattle.rules.specs.Report.{reportPage};
-ghost use Rattle.printing.specs.Left.{counted, printed, streamLines};
+ghost use Rattle.printing.specs.Left.{streamLines};
 ghost use Rattle.printing.specs.Bound.{Reported};
-use rules::Finding;
-use rules::Ran;
+use ran::count_of;
+use ran::one_if;
+use ran::write_ran;
 use rules::State;
 
 // "Reads up to 65,536 bytes of standard input, page 640 × 800."
@@ -31,40 +31,7 @@ const ALLOWANCE: usize = 131073;
 fn first_state() -> State
     ensures { λ r. ⌜ r ≡ afresh reportPage ⌝ }
 {
-    state::afresh(state::measure_of(WIDTH, HEIGHT))
-}
-
-// A page ended counts one.
-fn one_if(ended: bool) -> usize
-    ensures { λ r. ⌜ (r ≡ cond ended 1 0) × (r ≤ 1) ⌝ }
-{
-    if ended { 1 } else { 0 }
-}
-
-// A finding counts one.
-fn count_of(f: Finding) -> usize
-    ensures { λ r. ⌜ (r ≡ counted f) × (r ≤ 1) ⌝ }
-{
-    match f {
-        Finding::Nothing => 0,
-        Finding::EndsInside => 1,
-        Finding::CannotStand => 1,
-        Finding::NotCarried => 1,
-        Finding::NotAllowed => 1,
-        Finding::StackLimit => 1,
-        Finding::NotNow => 1,
-        Finding::DamagedRow => 1,
-    }
-}
-
-// What a run found: the line of its finding, and the line of the page that it ended.
-fn write_ran(o: Ran, number: usize, page: &[u8], room: &mut [u8], at: usize) -> usize
-    requires { ⌜ length (now page) ≡ 64000 ⌝ }
-    ensures { λ r. ⌜ Wrote (now (room .entry)) at (printed number o (now (page .entry)) []) (now (room .exit)) r ⌝ }
-{
-    let f = o.finding;
-    let behind = lines::write_fault(o.found, f, room, at);
-    lines::write_page_if(o.ended, number, page, room, behind)
+    fresh::afresh(state::measure_of(WIDTH, HEIGHT))
 }
 
 // The lines behind SIZE: run after run, until nothing is left to do.
@@ -83,7 +50,7 @@ fn write_stream(s: &[u8], page: &mut [u8], room: &mut [u8], at: usize) -> usize
         let t = o.state;
         if o.done == 0 {
             let core = t.core;
-            return lines::write_last(number, core, page, findings, room, next);
+            return closing::write_last(number, core, page, findings, room, next);
         }
         let f = o.finding;
         next = write_ran(o, number, page, room, next);

@@ -10,7 +10,7 @@ use borrow.Author.Tests.{eq-eqb, ne-eqb}
 use Rattle.rules.specs.declared.Mode.the-variants.{Ready}
 use Rattle.rules.specs.Rows.{isWhole, changed, byControl, decoded}
 use Rattle.rows.specs.Decoding.{Made, Decoded}
-use Rattle.rows.specs.Elements.{controlOf}
+use Rattle.controls.specs.Controls.{controlOf}
 
 module _ (method : ℕ) (s row row′ : List ℕ) (t : Bool) (h : t ≡ isWhole (controlOf method) (Ready 0) s) where
   -- a whole payload changes the row

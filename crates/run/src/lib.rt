@@ -19,9 +19,9 @@ use rules::Ran;
 use rules::Refusal;
 use rules::State;
 use rules::Verdict;
+use soundness::sound;
 use state::allowed;
 use state::measure_of;
-use state::sound;
 use turns::is_over;
 use turns::run_items;
 

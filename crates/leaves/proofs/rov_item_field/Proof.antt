@@ -5,7 +5,7 @@ use Rattle.leaves.proofs.rov_item_field.Statement.{statement}
 use Rattle.leaves.proofs.rov_item_field.Tie as tie
 use Rattle.leaves.proofs.rov_item_field.Reads as reads
 use Rattle.leaves.proofs.rov_item_field.Lts as lts
-use Rattle.leaves.proofs.field_of.Reads as field-of-reads
+use Rattle.fields.proofs.field_of.Reads as field-of-reads
 use Rattle.leaves.proofs.opened_by.Reads as opened-by-reads
 use Rattle.reader.proofs.read_item.Reads as read-item-reads
 

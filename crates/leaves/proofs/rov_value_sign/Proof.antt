@@ -1,4 +1,4 @@
-use Rattle.leaves.specs.Fields.{signNumber}
+use Rattle.fields.specs.Fields.{signNumber}
 use Rattle.leaves.proofs.Laws.{passed}
 use native.Mathlib.Omega.{arith}
 use borrow.Author.Needs.{needs}
@@ -6,7 +6,7 @@ use Rattle.leaves.proofs.rov_value_sign.Statement.{statement}
 use Rattle.leaves.proofs.rov_value_sign.Tie as tie
 use Rattle.leaves.proofs.rov_value_sign.Reads as reads
 use Rattle.leaves.proofs.rov_value_sign.Lts as lts
-use Rattle.leaves.proofs.sign_of.Reads as sign-of-reads
+use Rattle.fields.proofs.sign_of.Reads as sign-of-reads
 use Rattle.number.proofs.read_value.Reads as read-value-reads
 
 -- src/lib.rt:48:9

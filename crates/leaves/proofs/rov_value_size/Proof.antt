@@ -6,7 +6,7 @@ use Rattle.leaves.proofs.rov_value_size.Statement.{statement}
 use Rattle.leaves.proofs.rov_value_size.Tie as tie
 use Rattle.leaves.proofs.rov_value_size.Reads as reads
 use Rattle.leaves.proofs.rov_value_size.Lts as lts
-use Rattle.leaves.proofs.size_of.Reads as size-of-reads
+use Rattle.fields.proofs.size_of.Reads as size-of-reads
 use Rattle.number.proofs.read_value.Reads as read-value-reads
 
 -- src/lib.rt:58:9

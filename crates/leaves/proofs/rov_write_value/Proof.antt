@@ -5,7 +5,7 @@ use Rattle.leaves.proofs.rov_write_value.Statement.{statement}
 use Rattle.leaves.proofs.rov_write_value.Tie as tie
 use Rattle.leaves.proofs.rov_write_value.Reads as reads
 use Rattle.leaves.proofs.rov_write_value.Lts as lts
-use Rattle.number.proofs.write_value.Reads as write-value-reads
+use Rattle.written.proofs.write_value.Reads as write-value-reads
 
 -- src/lib.rt:287:9
 write-value-requires : tie.Need-write-value-requires

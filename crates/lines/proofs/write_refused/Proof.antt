@@ -2,7 +2,7 @@
 use borrow.Author.Needs.{needs}
 use Rattle.lines.proofs.write_refused.Statement.{statement}
 use Rattle.lines.proofs.write_refused.Tie as tie
-use Rattle.lines.proofs.Writing.{wrote-line}
+use Rattle.line.proofs.Pieces.{wrote-line}
 
 slice-aggregate-write-word : tie.Need-slice-aggregate-write-word
 slice-aggregate-write-word c = search needs

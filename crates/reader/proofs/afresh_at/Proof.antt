@@ -4,7 +4,7 @@ use native.Mathlib.Omega.{arith}
 use lib.ListN.{getD}
 use borrow.Author.Needs.{needs}
 use Rattle.common.proofs.Places.{at-cons₁}
-use Rattle.common.proofs.Choices.{choices, compound}
+use Rattle.common.proofs.Choices.{hit, miss, in-cond, under-cond, over-cond, or-cond, under-key, over-key}
 use Rattle.rules.specs.Items.{read}
 use Rattle.reader.proofs.Items.{gives, text-high}
 use Rattle.reader.proofs.afresh_at.Tie as tie
@@ -21,11 +21,11 @@ escape-at-requires c κs = search needs
 
 returns : tie.Need-returns
 unfolding read
-returns c = search (gives, at-cons₁ read, choices, compound, needs) depth 12
+returns c = search (gives, at-cons₁ read, hit, miss, in-cond, under-cond, over-cond, or-cond, under-key, over-key, needs) depth 12
 
 returns-2 : tie.Need-returns-2
 unfolding read
-returns-2 c = search (gives, at-cons₁ read, choices, compound, needs) depth 12
+returns-2 c = search (gives, at-cons₁ read, hit, miss, in-cond, under-cond, over-cond, or-cond, under-key, over-key, needs) depth 12
 
 returns-3 : tie.Need-returns-3
 returns-3 c =
@@ -35,11 +35,11 @@ returns-3 c =
 
 returns-4 : tie.Need-returns-4
 unfolding read
-returns-4 c = search (gives, at-cons₁ read, choices, compound, needs) depth 12
+returns-4 c = search (gives, at-cons₁ read, hit, miss, in-cond, under-cond, over-cond, or-cond, under-key, over-key, needs) depth 12
 
 returns-5 : tie.Need-returns-5
 unfolding read
-returns-5 c = search (gives, at-cons₁ read, choices, compound, needs) depth 12
+returns-5 c = search (gives, at-cons₁ read, hit, miss, in-cond, under-cond, over-cond, or-cond, under-key, over-key, needs) depth 12
 
 pub afresh-at-spec : {M : Type 1} → statement M
 afresh-at-spec =

@@ -1,7 +1,7 @@
 -- `reader::escape_at` meets its contract. Assumes nothing.
 use borrow.Author.Needs.{needs}
 use Rattle.common.proofs.Places.{at-cons, at-end}
-use Rattle.common.proofs.Choices.{choices}
+use Rattle.common.proofs.Choices.{in-cond, under-cond, over-cond}
 use Rattle.rules.specs.Items.{behindEscape}
 use Rattle.reader.proofs.Items.{gives}
 use Rattle.reader.proofs.escape_at.Tie as tie
@@ -12,7 +12,7 @@ ends-inside-requires c κs = search needs
 
 returns : tie.Need-returns
 unfolding behindEscape
-returns c = search (gives, at-cons behindEscape, at-end behindEscape, choices, needs) depth 9
+returns c = search (gives, at-cons behindEscape, at-end behindEscape, in-cond, under-cond, over-cond, needs) depth 9
 
 shared-slice-read-b : tie.Need-shared-slice-read-b
 shared-slice-read-b c = search needs
@@ -25,19 +25,19 @@ group-at-requires c κs = search needs
 
 returns-2 : tie.Need-returns-2
 unfolding behindEscape
-returns-2 c = search (gives, at-cons behindEscape, at-end behindEscape, choices, needs) depth 9
+returns-2 c = search (gives, at-cons behindEscape, at-end behindEscape, in-cond, under-cond, over-cond, needs) depth 9
 
 returns-3 : tie.Need-returns-3
 unfolding behindEscape
-returns-3 c = search (gives, at-cons behindEscape, at-end behindEscape, choices, needs) depth 9
+returns-3 c = search (gives, at-cons behindEscape, at-end behindEscape, in-cond, under-cond, over-cond, needs) depth 9
 
 returns-4 : tie.Need-returns-4
 unfolding behindEscape
-returns-4 c = search (gives, at-cons behindEscape, at-end behindEscape, choices, needs) depth 9
+returns-4 c = search (gives, at-cons behindEscape, at-end behindEscape, in-cond, under-cond, over-cond, needs) depth 9
 
 returns-5 : tie.Need-returns-5
 unfolding behindEscape
-returns-5 c = search (gives, at-cons behindEscape, at-end behindEscape, choices, needs) depth 9
+returns-5 c = search (gives, at-cons behindEscape, at-end behindEscape, in-cond, under-cond, over-cond, needs) depth 9
 
 pub escape-at-spec : {M : Type 1} → statement M
 escape-at-spec =

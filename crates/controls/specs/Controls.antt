@@ -1,0 +1,57 @@
+-- The control bytes of a payload by method, and what each asks for. Places of a payload are counted from its first byte, places of a row from its
+-- first byte too.
+use Prim.Native.Nat.{ℕ, suc, _+_, _≤_, _<_}
+use mathlib.Core.Path.{_≡_}
+use mathlib.Core.Bool.{cond}
+use mathlib.Core.List.{List, [], _∷_}
+use lib.Dec.{eqb}
+use lib.ListN.{length, drop}
+use Rattle.rules.specs.declared.Mode.{Mode}
+use Rattle.rules.specs.declared.Mode.the-variants.{Ready, Offset, Copy, Repeat}
+use Rattle.rules.specs.Rows.{control1, control2, control3}
+
+-- what a control byte of a method means, for the methods that have control bytes; a number over 2 acts as 3
+unfoldable pub controlOf : ℕ → ℕ → ℕ → Mode
+controlOf method = cond (eqb method 1) control1 (cond (eqb method 2) control2 control3)
+
+-- the bytes of 255 in front
+unfoldable pub fulls : List ℕ → ℕ
+fulls [] = 0
+fulls (b ∷ s) = cond (eqb b 255) (suc (fulls s)) 0
+
+-- the bytes that are asked for in a mode, up to the next control byte, where the payload goes on with s
+unfoldable pub asked : Mode → List ℕ → ℕ
+asked (Ready at) s = 0
+asked (Offset n at) s = fulls s + (n + 2)
+asked (Copy n at) s = n + 1
+asked (Repeat n at) s = 1
+
+-- the number that a mode holds besides its place: of bytes that follow one, or of places to fill
+unfoldable pub count : Mode → ℕ
+count (Ready at) = 0
+count (Offset n at) = n
+count (Copy n at) = n
+count (Repeat n at) = n
+
+-- the place in the row that a mode holds
+unfoldable pub place : Mode → ℕ
+place (Ready at) = at
+place (Offset n at) = at
+place (Copy n at) = at
+place (Repeat n at) = at
+
+-- r is the place of the first byte from i on that is not 255, or the end
+pub record Passed (s : List ℕ) (i r : ℕ) : Type 0 where
+  pub is : r ≡ i + fulls (drop i s)
+  pub inside : r ≤ length s
+
+-- a mode is what a control byte gives at a place; it holds a small number and a place near that one
+pub record Means (want : Mode) (at : ℕ) (r : Mode) : Type 0 where
+  pub is : r ≡ want
+  pub small : count r < 257
+  pub near : place r < at + 32
+
+-- r is the place behind what a mode asks for from i on
+pub record Behind (m : Mode) (s : List ℕ) (i r : ℕ) : Type 0 where
+  pub is : r ≡ i + asked m (drop i s)
+  pub on : i ≤ r

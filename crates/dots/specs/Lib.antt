@@ -1,3 +1,0 @@
-pub mod Ink
-pub mod Walks
-pub mod Pages

@@ -1,0 +1,17 @@
+-- `rows::clear` meets its contract: a run as long as the row is the row. Assumes nothing.
+use borrow.Author.Needs.{needs}
+use Rattle.elements.proofs.Clips.{cleared}
+use Rattle.elements.proofs.clear.Statement.{statement}
+use Rattle.elements.proofs.clear.Tie as tie
+
+fill-requires : tie.Need-fill-requires
+fill-requires c κs = search needs
+
+same-length : tie.Need-same-length
+same-length c = search needs
+
+returns : tie.Need-returns
+returns c = search (cleared, needs)
+
+pub clear-spec : {M : Type 1} → statement M
+clear-spec = tie.close (tie.spec fill-requires same-length returns)

@@ -1,0 +1,3 @@
+-- The laws of lines; they are for whoever writes lines too.
+pub mod Texts
+pub mod Pieces
