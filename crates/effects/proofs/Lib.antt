@@ -1,4 +1,2 @@
 -- The laws of this crate.
-pub mod Products
 pub mod Outcomes
-pub mod Movings

@@ -3,38 +3,36 @@
 // a measure within 4,800 by 6,800 dots is asked for, so that lengths fit. Where a function is handed a number and no value,
 // it is the number that the rules make of the value, and its promise is for each such value.
 ghost use mathlib.Core.Path.{_≡_};
-ghost use mathlib.Core.Bool.{false, cond};
-ghost use Prim.Native.Nat.{_+_, _*_, _-_, _/_, _≤_, _<_, min, max};
-ghost use Rattle.common.specs.Choice.{oneOf};
+ghost use mathlib.Core.Bool.{false};
+ghost use Prim.Native.Nat.{_+_, _*_, _/_, _≤_, _<_, min, max};
 ghost use Rattle.rules.specs.declared.Value.{Value};
 ghost use Rattle.rules.specs.declared.Kind.the-variants.{LeftMargin, RightMargin, TopMargin, Vmi, LinesPerInch, Hmi, Termination, PushPop, Resolution, StartRaster, SkipRows};
 ghost use Rattle.rules.specs.declared.Finding.the-variants.{Nothing};
-ghost use Rattle.rules.specs.Measure.{LW, inch};
+ghost use Rattle.rules.specs.Measure.{inch};
 ghost use Rattle.rules.specs.Number.{sizeOf, wholePart};
 ghost use Rattle.rules.specs.States.{withLeft, withRight, withVmi, withStarted, withMargin, withLayout, withRaster, withSeed, toX, toY, zeroSeed, firstLineAt};
-ghost use Rattle.rules.specs.Effects.{target, across, down, newLeft, newRight, newTop, lineRates, displacement, pushed, popped, rowHeight};
+ghost use Rattle.rules.specs.Effects.{across, down, newLeft, newRight, newTop, pushed, popped, rowHeight};
 ghost use Rattle.effects.specs.Outcome.{Outcome, CarriedOut};
-ghost use Rattle.effects.specs.Positions.{acrossSpot, downSpot, Moved};
+use changes::is_line_rate;
+use changes::new_right;
+use changes::rows_high;
+use changes::target;
+use changes::times;
 use rules::Core;
 use rules::Finding;
 use rules::Kind;
-use rules::Layout;
 use rules::Measure;
 use rules::Spot;
 use rules::Value;
 use state::first_line_at;
 use state::in_height;
 use state::inch_over;
-use state::into_height;
-use state::into_width;
 use state::is_resolution;
 use state::least;
-use state::less;
 use state::most;
 use state::started_at;
 use state::to_x;
 use state::to_y;
-use state::width;
 use values::size_of;
 use values::whole_part;
 
@@ -42,39 +40,6 @@ use values::whole_part;
 pub struct Carried {
     pub finding: Finding,
     pub core: Core,
-}
-
-// Where a position takes the cursor, with nothing else changed; any other command is Other.
-pub enum Moving {
-    To(Spot),
-    Other,
-}
-
-// A displacement: size times unit, cut to whole units.
-fn displacement(size: u32, unit: u32) -> u64
-    ensures { λ r. ⌜ (r ≡ displacement size unit) × (r < 1844674407370956) ⌝ }
-{
-    (size as u64) * (unit as u64) / 10000
-}
-
-// A place moved on or back, to no less than 0.
-fn moved(now: u32, back: bool, by: u64) -> u64
-    requires { ⌜ by < 1844674407370956 ⌝ }
-    ensures { λ r. ⌜ r ≡ cond back (now - by) (now + by) ⌝ }
-{
-    let from = now as u64;
-    if back { less(from, by) } else { from + by }
-}
-
-// Where a position lies: an absolute one from its base, a relative one from where the cursor is.
-fn target(base: u64, now: u32, unit: u32, v: Value) -> u64
-    requires { ⌜ base < 8589934592 ⌝ }
-    ensures { λ r. ⌜ r ≡ target base now unit v ⌝ }
-{
-    match v {
-        Value::Absolute(n) => base + displacement(n, unit),
-        Value::Relative { negative, size } => moved(now, negative, displacement(size, unit)),
-    }
 }
 
 // &a#C, &a#H, *p#X: x from 0 or from x.
@@ -112,13 +77,6 @@ fn line(g: Measure, v: Value, c: Core) -> Carried
     down_by(g, first_line_at(l), l.vmi, v, c)
 }
 
-// The whole part of the value, times a unit.
-fn times(v: Value, unit: u32) -> u64
-    ensures { λ r. ⌜ r ≡ wholePart v * unit ⌝ }
-{
-    (whole_part(v) as u64) * (unit as u64)
-}
-
 // The left margin set; x left of L moves to L.
 fn with_left(g: Measure, left: u32, c: Core) -> Core
     requires { ⌜ (g .wide ≤ 600) × (g .high ≤ 6800) ⌝ }
@@ -146,22 +104,6 @@ fn left_margin(g: Measure, left: u64, c: Core) -> Carried
         finding: Finding::Nothing,
         core,
     }
-}
-
-// How many columns stand left of the right margin that &a#M sets: the column it names is one of them.
-fn columns(v: Value) -> u64
-    ensures { λ r. ⌜ (r ≡ wholePart v + 1) × (r ≤ 429497) ⌝ }
-{
-    whole_part(v) as u64 + 1
-}
-
-// Where &a#M sets the right margin, no more than LW.
-fn new_right(g: Measure, v: Value, hmi: u32) -> u32
-    requires { ⌜ (g .wide ≤ 600) × (g .high ≤ 6800) ⌝ }
-    ensures { λ r. ⌜ r ≡ min ((wholePart v + 1) * hmi) (LW g) ⌝ }
-{
-    let most = width(g) as u64;
-    least(columns(v) * (hmi as u64), most) as u32
 }
 
 // The right margin set; x right of R moves to R.
@@ -231,16 +173,6 @@ fn vmi(g: Measure, size: u32, c: Core) -> Carried
     Carried {
         finding: Finding::Nothing,
         core,
-    }
-}
-
-// Whether &l#D takes this number of lines.
-fn is_line_rate(n: u32) -> bool
-    ensures { λ r. ⌜ r ≡ oneOf lineRates n ⌝ }
-{
-    match n {
-        1 | 2 | 3 | 4 | 6 | 8 | 12 | 16 | 24 | 48 => true,
-        _ => false,
     }
 }
 
@@ -455,14 +387,6 @@ fn reset_raster(c: Core) -> Carried
     }
 }
 
-// The height of n rows.
-fn rows_high(n: u32, resolution: u16) -> u64
-    requires { ⌜ n ≤ 429496 ⌝ }
-    ensures { λ r. ⌜ (r ≡ n * (inch / resolution)) × (r ≤ 3092371200) ⌝ }
-{
-    (n as u64) * (inch_over(resolution as u32) as u64)
-}
-
 // The cursor n rows further down.
 fn rows_down(g: Measure, n: u32, c: Core) -> Core
     requires { ⌜ (g .wide ≤ 600) × (g .high ≤ 6800) × (n ≤ 429496) ⌝ }
@@ -487,40 +411,6 @@ fn skip_rows(g: Measure, n: u32, c: Core) -> Carried
     Carried {
         finding: Finding::NotNow,
         core: c,
-    }
-}
-
-// The cursor behind &a#C, &a#H, *p#X.
-fn across_at(g: Measure, unit: u32, v: Value, at: Spot) -> Spot
-    requires { ⌜ (g .wide ≤ 600) × (g .high ≤ 6800) ⌝ }
-    ensures { λ r. ⌜ r ≡ acrossSpot g unit v at ⌝ }
-{
-    let x = into_width(g, target(0, at.x, unit, v));
-    Spot { x, y: at.y }
-}
-
-// The cursor behind &a#V, *p#Y, &a#R.
-fn down_at(g: Measure, base: u64, unit: u32, v: Value, at: Spot) -> Spot
-    requires { ⌜ (g .wide ≤ 600) × (g .high ≤ 6800) × (base < 8589934592) ⌝ }
-    ensures { λ r. ⌜ r ≡ downSpot g base unit v at ⌝ }
-{
-    let y = into_height(g, target(base, at.y, unit, v));
-    Spot { x: at.x, y }
-}
-
-// Where a position takes the cursor: no core is handed over, which is large. The value is here as it is used.
-pub fn positioned(g: Measure, k: Kind, v: Value, at: Spot, l: Layout) -> Moving
-    requires { ⌜ (g .wide ≤ 600) × (g .high ≤ 6800) ⌝ }
-    ensures { λ r. ⌜ Moved g k v at l r ⌝ }
-{
-    match k {
-        Kind::Column => Moving::To(across_at(g, l.hmi, v, at)),
-        Kind::DecipointAcross => Moving::To(across_at(g, 10, v, at)),
-        Kind::DotAcross => Moving::To(across_at(g, 24, v, at)),
-        Kind::DecipointDown => Moving::To(down_at(g, l.top as u64, 10, v, at)),
-        Kind::DotDown => Moving::To(down_at(g, l.top as u64, 24, v, at)),
-        Kind::Line => Moving::To(down_at(g, first_line_at(l), l.vmi, v, at)),
-        _ => Moving::Other,
     }
 }
 

@@ -7,7 +7,7 @@ use Prim.Native.Nat.{ℕ, _+_, _-_, _/_, _≤_, _<_, min}
 use native.Mathlib.Omega.{arith}
 use native.Mathlib.Nat.{min-eq-left}
 use lib.Dec.{eqb}
-use lib.ListN.{length, take, drop, replicate, length-drop}
+use lib.ListN.{length, take, drop, replicate, length-drop, length-replicate}
 use lib.Seq.{take-at}
 use borrow.Author.Tests.{lt-leb, le-leb, eqb-true}
 use Rattle.common.specs.Lists.{pad}
@@ -24,11 +24,12 @@ use Rattle.rules.specs.declared.Finding.{Finding}
 use Rattle.rules.specs.declared.Finding.the-variants.{Nothing, NotCarried, NotAllowed, EndsInside, CannotStand, StackLimit, NotNow, DamagedRow}
 use Rattle.rules.specs.declared.Spot.{Spot}
 use Rattle.rules.specs.declared.Layout.{Layout}
+use Rattle.rules.specs.declared.Raster.{Raster}
 use Rattle.rules.specs.declared.Core.{Core}
 use Rattle.rules.specs.declared.Beside.{Beside}
 use Rattle.rules.specs.Measure.{dotUnit, rowHolds}
 use Rattle.rules.specs.Findings.{isClean}
-use Rattle.rules.specs.States.{besideOf, withAt, withSeed}
+use Rattle.rules.specs.States.{besideOf, withAt, withRaster, withUsed, withSeed, zeroSeed}
 use Rattle.rules.specs.Number.{wholePart}
 use Rattle.rules.specs.Commands.{whole, useOf, usedValue, isNegative}
 use Rattle.rules.specs.Effects.{effect, barred, startedAt}
@@ -39,11 +40,11 @@ use Rattle.rules.specs.Codes.{typed, typedAll, coded, escaped, codeByte, escape
 use Rattle.rules.specs.Acts.{Act, type, control, escape, order, print, draw, show, showAll, next, nextAll, shown, endsPage, besideAfter, bar, gate, Meaning, meaning, nothingDone, meanCode, meanTwo, begun, seedNow, meanRow, meanCommand, mean}
 use Rattle.rules.specs.Items as rule
 use Rattle.rows.specs.Decoding.{Decoded}
-use Rattle.raster.specs.Cursor.{movedOn}
-use Rattle.effects.specs.declared.Moving.{Moving}
-use Rattle.effects.specs.declared.Moving.the-variants.{To, Other}
-use Rattle.effects.specs.Positions.{Moved}
-use Rattle.raster.proofs.Drawing.{drawn-parts}
+use Rattle.raster.specs.Cursor.{rasterBegun, rowSpot, movedOn}
+use Rattle.changes.specs.declared.Change.{Change}
+use Rattle.changes.specs.declared.Change.the-variants.{To, Laid, Drawn, Fresh, Other}
+use Rattle.changes.specs.Changed.{made, Goes, Changed}
+use Rattle.raster.proofs.Drawing.{drawn-parts, row-parts, begun-raster, begun-at, begun-seed}
 use Rattle.theorems.proofs.Lengths.{decoded-length}
 use Rattle.theorems.proofs.Soundness.{drop-zeros}
 use Rattle.common.proofs.Choices.{and-true}
@@ -58,7 +59,7 @@ use Rattle.items.specs.declared.Coding.{Coding}
 use Rattle.items.specs.declared.Coding.the-variants as coding
 use Rattle.items.specs.declared.Escaping.{Escaping}
 use Rattle.items.specs.declared.Escaping.the-variants as escaping
-use Rattle.items.specs.Acted.{actedOf, acted, pageAfter, ActedOn, ActedFor, ItemMoved, codeOf, escapeOf, meanBytes}
+use Rattle.items.specs.Acted.{actedOf, acted, pageAfter, ActedOn, ActedFor, ItemChanged, codeOf, escapeOf, meanBytes}
 
 module _ (g : Measure) where
   -- nothing is done
@@ -236,18 +237,25 @@ pub item-command : (g : Measure) (s page : List ℕ) (i : Item) (k : Command) (f
 unfolding mean
 item-command g s page i k from to c m r after e h = rw e h
 
--- a position: the cursor moves, and nothing else is done
-pub item-moved : (g : Measure) (i : Item) (j : Command) (from to : ℕ) (k : Kind) (v u : Value) (at : Spot) (l : Layout) (r : Moving) → i ≡ found.Command j from to → j ≡ Valued k v → u ≡ usedValue (useOf k) v
-    → Moved g k u at l r → ItemMoved g i at l r
-item-moved g i j from to k v u at l r e f x = go r
+-- a command that makes a change: nothing else is done
+pub item-changed : (g : Measure) (i : Item) (j : Command) (from to : ℕ) (k : Kind) (v u : Value) (at : Spot) (l : Layout) (r : Raster) (d : Change) (t : Bool) → i ≡ found.Command j from to → j ≡ Valued k v → t ≡ isNegative (useOf k) v → t ≡ false
+    → u ≡ usedValue (useOf k) v → Changed g k u at l r d → ItemChanged g i at l r d
+item-changed g i j from to k v u at l r d t e f o y x = go d
   where
-    go : (y : Moving) → Moved g k u at l y → ItemMoved g i at l y
-    go (To q) h = λ s c m a b page.
-        let z = h c a b in
-        let d : withAt q c ≡ cond (isClean (barred g k u c)) (effect g k u c) c = rw (z .free) (sym (z .there)) in
+    told : (b : Change) → ((c : Core) → at ≡ c .at → l ≡ c .layout → r ≡ c .raster → Goes g k u b c)
+        → (s : List ℕ) (c : Core) (m : Beside) → at ≡ c .at → l ≡ c .layout → r ≡ c .raster → ActedFor g (mean g (itemIn s i) c m) c (actedOf (made b c) m Nothing false)
+    told b h s c m p q w page =
+        let z = h c p q w in
+        let a : made b c ≡ cond (isClean (barred g k u c)) (effect g k u c) c = rw (z .free) (sym (z .there)) in
         let n = take (to - from) (drop from s) in
-        let w = valued-done g k v u c (withAt q c) m m Nothing false (sym (z .signed v)) refl x (sym (z .free)) d (λ o. sym (z .aside o m)) n page in
-        item-command g s page i j from to c m (actedOf (withAt q c) m Nothing false) page e (rw f w)
+        let done = valued-done g k v u c (made b c) m m Nothing t o y x (sym (z .free)) a (λ n. sym (z .aside n m)) n page in
+        item-command g s page i j from to c m (actedOf (made b c) m Nothing false) page e (rw f done)
+
+    go : (b : Change) → Changed g k u at l r b → ItemChanged g i at l r b
+    go (To p) h = told (To p) h
+    go (Laid p n) h = told (Laid p n) h
+    go (Drawn q) h = told (Drawn q) h
+    go (Fresh q) h = told (Fresh q) h
     go Other h = tt
 
 -- a list of zeros
@@ -264,6 +272,23 @@ seed-now w c h = go (c .raster .started)
     go : (t : Bool) → allZero (drop w (cond t c (startedAt 0 c) .seed)) ≡ true
     go true = h
     go false = drop-zeros w 600
+
+-- it is as long as the seed row
+seed-long : (c : Core) → length (c .seed) ≡ 600 → length (seedNow c) ≡ 600
+unfolding startedAt
+seed-long c h = go (c .raster .started)
+  where
+    go : (t : Bool) → length (cond t c (startedAt 0 c) .seed) ≡ 600
+    go true = h
+    go false = length-replicate {A = ℕ} 600 0
+
+-- so is one that is zeroed or kept
+pub kept-long : (t : Bool) (l s : List ℕ) → length l ≡ 600 → s ≡ cond t l zeroSeed → length s ≡ 600
+kept-long t l s h e = rw e (go t)
+  where
+    go : (u : Bool) → length (cond u l zeroSeed) ≡ 600
+    go true = h
+    go false = length-replicate {A = ℕ} 600 0
 
 module _ (g : Measure) (v : Value) (p : List ℕ) (c : Core) (m : Beside) where
   -- *b#W with a negative value
@@ -297,13 +322,18 @@ module _ (g : Measure) (v : Value) (p : List ℕ) (c : Core) (m : Beside) where
         let u : take (g .wide) after ≡ bytes = ap (take (g .wide)) q ∙ take-at bytes (replicate (600 - length bytes) 0) (g .wide) bytes-long in
         rw (← i, e, z, w, y, u, q, k, h) (rw (drawn-parts g bytes c) at (one-act g (draw bytes) (cond (decoded (g .wide) (m .method) (seedNow c) p .intact) Nothing DamagedRow) m c page))
 
-  -- the same, where the length of the row that was lent is known
-  pub row-done : (b d : Core) (after page painting : List ℕ) (t o : Bool) (f : Finding) → g .wide ≤ 600 → allZero (drop (g .wide) (c .seed)) ≡ true → o ≡ isNegative whole v → o ≡ false → b ≡ begun c → d ≡ movedOn g b
-      → length (d .seed) ≡ 600 → Decoded (m .method) (min (g .wide) 600) p (d .seed) after t
-      → painting ≡ painted (g .wide) (take (g .wide) after) (300 / b .raster .resolution) (b .raster .margin / dotUnit) (b .at .y / dotUnit) page → f ≡ cond t Nothing DamagedRow
-      → ActedOn g (meanCommand g (Row v) p c m) c page (actedOf (withSeed after d) m f false) painting
-  row-done b d after page painting t o f fits clear i e h k l x y z =
-      drawing fits (ap (λ (a : Core). length (a .seed)) (sym h) ∙ ap (λ (a : Core). length (a .seed)) (sym k) ∙ l) clear b d after page painting t o f i e h k x y z
+  -- the same from its parts: the raster state that it is drawn in, the seed row that it is decoded over, and the cursor behind it
+  pub row-done : (q : Raster) (to : Spot) (seed after page painting : List ℕ) (t o : Bool) (f : Finding) → g .wide ≤ 600 → allZero (drop (g .wide) (c .seed)) ≡ true → length (c .seed) ≡ 600 → o ≡ isNegative whole v → o ≡ false
+      → q ≡ rasterBegun (c .raster) → to ≡ rowSpot g (c .at) q → seed ≡ cond (c .raster .started) (c .seed) zeroSeed → Decoded (m .method) (min (g .wide) 600) p seed after t
+      → painting ≡ painted (g .wide) (take (g .wide) after) (300 / q .resolution) (q .margin / dotUnit) (c .at .y / dotUnit) page → f ≡ cond t Nothing DamagedRow
+      → ActedOn g (meanCommand g (Row v) p c m) c page (actedOf (withSeed after (withUsed true (withRaster q (withAt to c)))) m f false) painting
+  row-done q to seed after page painting t o f fits clear long i e h k b x y z =
+      let n : seed ≡ seedNow c = b ∙ begun-seed c in
+      let l : length (seedNow c) ≡ 600 = seed-long c long in
+      let x′ : Decoded (m .method) (min (g .wide) 600) p (movedOn g (begun c) .seed) after t = rw n at x in
+      let r : q ≡ begun c .raster = h ∙ sym (begun-raster c) in
+      let y′ : painting ≡ painted (g .wide) (take (g .wide) after) (300 / begun c .raster .resolution) (begun c .raster .margin / dotUnit) (begun c .at .y / dotUnit) page = rw (begun-at c, ← r) y in
+      rw (k, h) (rw (row-parts g c after) at (drawing fits l clear (begun c) (movedOn g (begun c)) after page painting t o f i e refl refl x′ y′ z))
 
 -- the row method behind a command that is not barred
 pub beside-moved : (k : Kind) (f : Finding) (m n : Beside) (t : Bool) → t ≡ isClean f → t ≡ true → ((v : Value) → n ≡ besideAfter (order k v) m) → (v : Value) → n ≡ cond (isClean f) (besideAfter (order k v) m) m

@@ -1,5 +1,4 @@
 -- What an item did, from its meaning: the acts of the rules, done on the core and shown on the page.
-use Prim.{Unit}
 use mathlib.Core.Path.{_≡_}
 use mathlib.Core.Bool.{Bool, false, cond, not}
 use mathlib.Core.List.{List, []}
@@ -13,9 +12,9 @@ use Rattle.rules.specs.declared.Finding.{Finding}
 use Rattle.rules.specs.declared.Finding.the-variants.{Nothing}
 use Rattle.rules.specs.declared.Spot.{Spot}
 use Rattle.rules.specs.declared.Layout.{Layout}
+use Rattle.rules.specs.declared.Raster.{Raster}
 use Rattle.rules.specs.declared.Core.{Core}
 use Rattle.rules.specs.declared.Beside.{Beside}
-use Rattle.rules.specs.States.{withAt}
 use Rattle.rules.specs.Codes.{codeByte, escapeByte}
 use Rattle.rules.specs.Items as rule
 use Rattle.rules.specs.Acts.{World, world, showAll, nextAll, Meaning, nothingDone, mean}
@@ -23,8 +22,8 @@ use Rattle.rules.specs.Run.{pageOf}
 use Rattle.reader.specs.declared.Item.{Item}
 use Rattle.reader.specs.declared.Item.the-variants.{Text, Code, Two, Command, Broken}
 use Rattle.reader.specs.Items.{itemIn}
-use Rattle.effects.specs.declared.Moving.{Moving}
-use Rattle.effects.specs.declared.Moving.the-variants.{To, Other}
+use Rattle.changes.specs.declared.Change.{Change}
+use Rattle.changes.specs.Changed.{made, IfTold}
 use Rattle.items.specs.declared.Acted.{Acted}
 use Rattle.items.specs.declared.Coding.{Coding}
 use Rattle.items.specs.declared.Coding.the-variants as coding
@@ -55,10 +54,10 @@ pub record ActedOn (g : Measure) (o : Meaning) (c : Core) (p : List ℕ) (r : Ac
 abbrev pub ActedFor : Measure → Meaning → Core → Acted → Type 0
 ActedFor g o c r = (p : List ℕ) → ActedOn g o c p r p
 
--- what is told of an item where the cursor is at p and the layout is l: that it moves the cursor to q and does nothing else
-abbrev pub ItemMoved : Measure → Item → Spot → Layout → Moving → Type 0
-ItemMoved g i p l (To q) = (s : List ℕ) (c : Core) (m : Beside) → p ≡ c .at → l ≡ c .layout → ActedFor g (mean g (itemIn s i) c m) c (actedOf (withAt q c) m Nothing false)
-ItemMoved g i p l Other = Unit {0}
+-- what is told of an item where the cursor is at p, the layout is l and the raster state is q: that it makes the change d and does nothing else
+abbrev pub ItemChanged : Measure → Item → Spot → Layout → Raster → Change → Type 0
+ItemChanged g i p l q d =
+    IfTold d ((s : List ℕ) (c : Core) (m : Beside) → p ≡ c .at → l ≡ c .layout → q ≡ c .raster → ActedFor g (mean g (itemIn s i) c m) c (actedOf (made d c) m Nothing false))
 
 -- the code that a byte is
 abbrev pub codeOf : ℕ → Coding

@@ -14,18 +14,19 @@ ghost use Rattle.rules.specs.Dots.{painted};
 ghost use Rattle.rules.specs.Items.{text};
 ghost use Rattle.rules.specs.Acts.{gate, control, escape, order, besideAfter, meanCode, meanTwo, meanCommand, mean};
 ghost use Rattle.reader.specs.Items.{itemIn, fromOf, toOf};
-ghost use Rattle.items.specs.Acted.{actedOf, ActedOn, ActedFor, ItemMoved, codeOf, escapeOf, meanBytes};
+ghost use Rattle.items.specs.Acted.{actedOf, ActedOn, ActedFor, ItemChanged, codeOf, escapeOf, meanBytes};
+use changes::Change;
+use changes::changed;
 use codes::code_ends_page;
 use codes::coded;
 use codes::escape_ends_page;
 use codes::escaped;
-use effects::Moving;
 use effects::carry_out;
-use effects::positioned;
-use raster::begun;
+use raster::begin_seed;
+use raster::begun_raster;
 use raster::beside_escape;
 use raster::beside_order;
-use raster::moved_on;
+use raster::row_at;
 use reader::Item;
 use rules::Beside;
 use rules::Code;
@@ -281,12 +282,17 @@ fn do_row(page: &mut [u8], g: Measure, v: Value, payload: &[u8], c: Core, m: Bes
     if whole_negative(v) {
         return nothing_done(Finding::NotAllowed, c, m);
     }
-    let b = begun(c);
-    let raster = b.raster;
-    let y = b.at.y;
-    let mut d = moved_on(g, b);
+    let from = c.at;
+    let before = c.raster;
+    let raster = begun_raster(before);
+    let at = row_at(g, from, raster);
+    let mut d = c;
+    d.at = at;
+    d.raster = raster;
+    d.used = true;
+    begin_seed(before.started, &mut d.seed);
     let intact = rows::decode(m.method, payload, &mut d.seed, g.wide);
-    paint_row(page, g, &d.seed, raster, y);
+    paint_row(page, g, &d.seed, raster, from.y);
     let finding = row_finding(intact);
     Acted {
         core: d,
@@ -354,10 +360,10 @@ pub fn do_item(page: &mut [u8], g: Measure, s: &[u8], i: Item, c: Core, m: Besid
     do_command(page, g, command, &s[from..to], c, m)
 }
 
-// Where an item takes the cursor, with nothing else changed: a position. No core is handed over, which is large.
-pub fn move_item(g: Measure, i: Item, at: Spot, l: Layout) -> Moving
+// What an item changes, where that is little and nothing else is done. No core is handed over, which is large.
+pub fn change_item(g: Measure, i: Item, at: Spot, l: Layout, r: Raster) -> Change
     requires { ⌜ (g .wide ≤ 600) × (g .high ≤ 6800) ⌝ }
-    ensures { λ r. ⌜ ItemMoved g i at l r ⌝ }
+    ensures { λ d. ⌜ ItemChanged g i at l r d ⌝ }
 {
     let Item::Command {
         command,
@@ -365,10 +371,13 @@ pub fn move_item(g: Measure, i: Item, at: Spot, l: Layout) -> Moving
         to: _,
     } = i
     else {
-        return Moving::Other;
+        return Change::Other;
     };
     let Command::Valued(k, v) = command else {
-        return Moving::Other;
+        return Change::Other;
     };
-    positioned(g, k, used_value(k, v), at, l)
+    if is_negative(k, v) {
+        return Change::Other;
+    }
+    changed(g, k, used_value(k, v), at, l, r)
 }

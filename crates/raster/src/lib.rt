@@ -1,11 +1,12 @@
-// What a row does to the state besides its dots and the seed row; what sets the row method back.
+// What a row does to the state besides its dots and its bytes; what sets the row method back.
 ghost use mathlib.Core.Path.{_≡_};
+ghost use mathlib.Core.Bool.{cond};
 ghost use Prim.Native.Nat.{_≤_};
 ghost use Rattle.rules.specs.declared.Value.{Value};
-ghost use Rattle.rules.specs.Acts.{begun, isResetRaster, besideAfter, order, escape};
-ghost use Rattle.raster.specs.Cursor.{rowSpot, movedOn};
+ghost use Rattle.rules.specs.States.{zeroSeed};
+ghost use Rattle.rules.specs.Acts.{isResetRaster, besideAfter, order, escape};
+ghost use Rattle.raster.specs.Cursor.{rasterBegun, rowSpot};
 use rules::Beside;
-use rules::Core;
 use rules::Escape;
 use rules::Kind;
 use rules::Measure;
@@ -14,17 +15,30 @@ use rules::Spot;
 use state::inch_over;
 use state::into_height;
 use state::into_width;
-use state::started_at;
 
-// A row when not started first acts as *r0A.
-pub fn begun(c: Core) -> Core
-    ensures { λ r. ⌜ r ≡ begun c ⌝ }
+// The raster state that a row is drawn in: when not started it first acts as *r0A.
+pub fn begun_raster(r: Raster) -> Raster
+    ensures { λ q. ⌜ q ≡ rasterBegun r ⌝ }
 {
-    if c.raster.started {
-        c
-    } else {
-        started_at(0, c)
+    if r.started {
+        return r;
     }
+    let resolution = r.resolution;
+    Raster {
+        resolution,
+        started: true,
+        margin: 0,
+    }
+}
+
+// The seed row that a row is decoded with: when not started it is zeroed first.
+pub fn begin_seed(started: bool, seed: &mut [u8; 600])
+    ensures { λ _. ⌜ now (seed .exit) ≡ cond started (now (seed .entry)) zeroSeed ⌝ }
+{
+    if started {
+        return;
+    }
+    *seed = [0u8; 600];
 }
 
 // The cursor behind a row.
@@ -36,20 +50,6 @@ pub fn row_at(g: Measure, at: Spot, r: Raster) -> Spot
     let apart = inch_over(r.resolution as u32);
     let y = into_height(g, at.y as u64 + apart as u64);
     Spot { x, y }
-}
-
-// The core behind a row but for the seed row, which the row decoder changes in place.
-pub fn moved_on(g: Measure, c: Core) -> Core
-    requires { ⌜ (g .wide ≤ 600) × (g .high ≤ 6800) ⌝ }
-    ensures { λ r. ⌜ r ≡ movedOn g c ⌝ }
-{
-    let from = c.at;
-    let raster = c.raster;
-    let at = row_at(g, from, raster);
-    let mut d = c;
-    d.at = at;
-    d.used = true;
-    d
 }
 
 // Whether the command is *rC.

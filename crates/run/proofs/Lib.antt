@@ -1,2 +1,3 @@
-pub mod Turns
+-- The laws of this crate.
+pub mod Ready
 pub mod Answers

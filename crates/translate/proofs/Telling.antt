@@ -13,13 +13,15 @@ use Rattle.rules.specs.declared.Measure.{Measure}
 use Rattle.rules.specs.declared.Sequence.{Sequence}
 use Rattle.rules.specs.declared.Sequence.the-variants.{Closed, Open}
 use Rattle.rules.specs.declared.Spot.{Spot}
+use Rattle.rules.specs.declared.Layout.{Layout}
+use Rattle.rules.specs.declared.Raster.{Raster}
 use Rattle.rules.specs.declared.Finding.{Finding}
 use Rattle.rules.specs.declared.Finding.the-variants.{Nothing}
 use Rattle.rules.specs.declared.Core.{Core}
 use Rattle.rules.specs.declared.Beside.{Beside}
 use Rattle.rules.specs.declared.State.{State}
 use Rattle.rules.specs.Sound.{sequenceSound}
-use Rattle.rules.specs.States.{stateOf, withAt, withUsed, afresh}
+use Rattle.rules.specs.States.{stateOf, withAt, withLayout, withRaster, withUsed, afresh}
 use Rattle.rules.specs.Codes.{typed}
 use Rattle.rules.specs.Items.{isText, read}
 use Rattle.rules.specs.Items as rule
@@ -27,17 +29,19 @@ use Rattle.rules.specs.Acts.{Act, mean, step, isClosed, over}
 use Rattle.rules.specs.Run.{Trace, trace, traceOf, enough, wholeStream, actsOf, acts}
 use Rattle.rules.specs.Plain.{put, putAll, plain}
 use Rattle.reader.specs.declared.ReadItem.{ReadItem}
+use Rattle.reader.specs.declared.Item.{Item}
 use Rattle.reader.specs.declared.Item.the-variants as found
 use Rattle.reader.specs.Items.{readAt, itemIn, ItemAt}
 use Rattle.reader.proofs.Places.{read-back}
 use Rattle.items.specs.declared.Acted.{Acted}
-use Rattle.items.specs.Acted.{actedOf, acted, ActedOn, ItemMoved}
+use Rattle.items.specs.Acted.{actedOf, acted, ActedOn, ActedFor, ItemChanged}
 use Rattle.items.proofs.Deeds.{text-done}
-use Rattle.effects.specs.declared.Moving.{Moving}
-use Rattle.effects.specs.declared.Moving.the-variants.{To}
+use Rattle.changes.specs.declared.Change.{Change}
+use Rattle.changes.specs.declared.Change.the-variants.{To, Laid, Drawn}
+use Rattle.changes.specs.Changed.{made}
 use Rattle.text.specs.Cursor.{typedSpot}
-use Rattle.run.specs.Turns.{textNext, ItemDone}
-use Rattle.run.proofs.Turns.{item-done, over-not, text-plain, text-told}
+use Rattle.turns.specs.Turns.{textNext, ItemDone}
+use Rattle.turns.proofs.Turns.{item-done, over-not, text-plain, text-told}
 use Rattle.theorems.specs.Facts.{Fits, Shaped, SoundState}
 use Rattle.theorems.proofs.Reading.{left}
 use Rattle.theorems.proofs.Lengths.{fresh-shaped}
@@ -204,6 +208,20 @@ text-at s at l h =
       low = omega arith;
     }
 
+-- the change that an item makes, as it is told
+module _ (g : Measure) (s : List ℕ) (i : Item) (c : Core) (m : Beside) (v : Change) (j : ItemChanged g i (c .at) (c .layout) (c .raster) v) where
+  abbrev Makes : Change → Type 0
+  Makes d = ActedFor g (mean g (itemIn s i) c m) c (actedOf (made d c) m Nothing false)
+
+  makes-to : (p : Spot) → v ≡ To p → Makes (To p)
+  makes-to p z = let w : ItemChanged g i (c .at) (c .layout) (c .raster) (To p) = rw z at j in w s c m refl refl refl
+
+  makes-laid : (p : Spot) (l : Layout) → v ≡ Laid p l → Makes (Laid p l)
+  makes-laid p l z = let w : ItemChanged g i (c .at) (c .layout) (c .raster) (Laid p l) = rw z at j in w s c m refl refl refl
+
+  makes-drawn : (b : Raster) → v ≡ Drawn b → Makes (Drawn b)
+  makes-drawn b z = let w : ItemChanged g i (c .at) (c .layout) (c .raster) (Drawn b) = rw z at j in w s c m refl refl refl
+
 module _ (g : Measure) (fit : Fits g) (s before : List ℕ) (c : Core) (m : Beside) (q : Sequence) (at : ℕ) (room : List ℕ) (end : ℕ) (h : Telling g s before (stateOf c m q) at room end) where
   -- behind a space or a text byte: the cursor moved, the page is used or not
   pub telling-text : (x : Bool) (to : Spot) (u : Bool) (room′ : List ℕ) (end′ : ℕ) → x ≡ textNext s at q → x ≡ true → to ≡ typedSpot g (c .at) (c .layout) → u ≡ (c .used || not (eqb (getD s at 0) 32))
@@ -222,18 +240,39 @@ module _ (g : Measure) (fit : Fits g) (s before : List ℕ) (c : Core) (m : Besi
           telling-more g fit s before (stateOf c m Closed) at room end h false v refl (record { item = found.Text (getD s at 0); sequence = Closed; next = at + 1 }) (actedOf (withUsed u (withAt to c)) m Nothing false) [] [] i a [] room′ end′ refl q
       go (Open first group) e h v i a q = absurd (false≢true (ap isClosed e))
 
-  module _ (x : Bool) (e : x ≡ over (stateOf c m q) (drop at s)) (f : x ≡ false) (r : ReadItem) (v : Moving) (to : Spot) (i : ItemAt s at q r) (j : ItemMoved g (r .item) (c .at) (c .layout) v) (z : v ≡ To to) where
-    moved : ActedOn g (mean g (itemIn s (r .item)) c m) c [] (actedOf (withAt to c) m Nothing false) []
-    moved = let w : ItemMoved g (r .item) (c .at) (c .layout) (To to) = rw z at j in w s c m refl refl []
+  -- a command that makes a change and does nothing else
+  module _ (x : Bool) (e : x ≡ over (stateOf c m q) (drop at s)) (f : x ≡ false) (r : ReadItem) (i : ItemAt s at q r) (d : Change) (w : ActedFor g (mean g (itemIn s (r .item)) c m) c (actedOf (made d c) m Nothing false)) where
+    -- less is left behind it
+    made-less : left (r .sequence) (drop (r .next) s) < left q (drop at s)
+    made-less = telling-less g fit s before (stateOf c m q) at room end h x e f r (actedOf (made d c) m Nothing false) [] [] i (w [])
 
-    -- less is left behind a position
-    pub moves-less : left (r .sequence) (drop (r .next) s) < left q (drop at s)
-    moves-less = telling-less g fit s before (stateOf c m q) at room end h x e f r (actedOf (withAt to c) m Nothing false) [] [] i moved
+    -- behind it: the change is made
+    telling-made : (room′ : List ℕ) (end′ : ℕ) → PutsShort room end (plainItem (itemIn s (r .item)) Nothing (take (g .wide) (made d c .seed))) room′ end′
+        → Telling g s before (stateOf (made d c) m (r .sequence)) (r .next) room′ end′
+    telling-made room′ end′ p = telling-more g fit s before (stateOf c m q) at room end h x e f r (actedOf (made d c) m Nothing false) [] [] i (w []) [] room′ end′ refl p
 
-    -- behind a position: the cursor moved
-    pub telling-moves : (room′ : List ℕ) (end′ : ℕ) → PutsShort room end (plainItem (itemIn s (r .item)) Nothing (take (g .wide) (c .seed))) room′ end′
-        → Telling g s before (stateOf (withAt to c) m (r .sequence)) (r .next) room′ end′
-    telling-moves room′ end′ p = telling-more g fit s before (stateOf c m q) at room end h x e f r (actedOf (withAt to c) m Nothing false) [] [] i moved [] room′ end′ refl p
+  -- the same as the change is told
+  module _ (x : Bool) (e : x ≡ over (stateOf c m q) (drop at s)) (f : x ≡ false) (r : ReadItem) (i : ItemAt s at q r) (v : Change) (j : ItemChanged g (r .item) (c .at) (c .layout) (c .raster) v) where
+    abbrev Behind : Core → Type 0
+    Behind d = (room′ : List ℕ) (end′ : ℕ) → PutsShort room end (plainItem (itemIn s (r .item)) Nothing (take (g .wide) (c .seed))) room′ end′ → Telling g s before (stateOf d m (r .sequence)) (r .next) room′ end′
+
+    pub to-less : (p : Spot) → v ≡ To p → left (r .sequence) (drop (r .next) s) < left q (drop at s)
+    to-less p z = made-less x e f r i (To p) (makes-to g s (r .item) c m v j p z)
+
+    pub telling-to : (p : Spot) → v ≡ To p → Behind (withAt p c)
+    telling-to p z = telling-made x e f r i (To p) (makes-to g s (r .item) c m v j p z)
+
+    pub laid-less : (p : Spot) (l : Layout) → v ≡ Laid p l → left (r .sequence) (drop (r .next) s) < left q (drop at s)
+    laid-less p l z = made-less x e f r i (Laid p l) (makes-laid g s (r .item) c m v j p l z)
+
+    pub telling-laid : (p : Spot) (l : Layout) → v ≡ Laid p l → Behind (withLayout l (withAt p c))
+    telling-laid p l z = telling-made x e f r i (Laid p l) (makes-laid g s (r .item) c m v j p l z)
+
+    pub drawn-less : (b : Raster) → v ≡ Drawn b → left (r .sequence) (drop (r .next) s) < left q (drop at s)
+    drawn-less b z = made-less x e f r i (Drawn b) (makes-drawn g s (r .item) c m v j b z)
+
+    pub telling-drawn : (b : Raster) → v ≡ Drawn b → Behind (withRaster b c)
+    telling-drawn b z = telling-made x e f r i (Drawn b) (makes-drawn g s (r .item) c m v j b z)
 
   -- less is left behind a text byte
   pub text-less : (x : Bool) → x ≡ textNext s at q → x ≡ true → left q (drop (at + 1) s) < left q (drop at s)

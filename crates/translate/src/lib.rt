@@ -10,11 +10,11 @@ ghost use Rattle.theorems.specs.Statements.{TranslatePromise};
 ghost use Rattle.reader.specs.Items.{itemIn, fromOf, toOf};
 ghost use Rattle.plainitem.specs.Plain.{PutsShort, plainItem};
 ghost use Rattle.translate.specs.Walked.{Walked};
+use changes::Change;
 use common::least;
-use effects::Moving;
 use fresh::afresh;
+use items::change_item;
 use items::do_item;
-use items::move_item;
 use plainitem::write_item;
 use plainitem::write_one;
 use reader::Item;
@@ -24,12 +24,12 @@ use rules::Measure;
 use rules::Refusal;
 use rules::Translated;
 use rules::Verdict;
-use run::is_over;
-use run::text_next;
 use state::allowed;
 use state::measure_of;
 use text::marked;
 use text::typed_at;
+use turns::is_over;
+use turns::text_next;
 
 // An item that is done, in the plain stream: a row is the front of the seed row that it left.
 fn write_done(
@@ -47,7 +47,7 @@ fn write_done(
     write_item(s, i, f, &seed[0..wide], room, at)
 }
 
-// The stream walked from its start, afresh, to its end, as a run does it: text and positions here, all else by `do_item`. What is drawn
+// The stream walked from its start, afresh, to its end, as a run does it: text, and commands that change little, here, all else by `do_item`. What is drawn
 // falls on a page of no bytes. It ends early where more than `most` bytes are to be written.
 fn walk(g: Measure, s: &[u8], room: &mut [u8], most: usize) -> usize
     requires { ⌜ Fits g × (length (now s) ≤ 1048576) ⌝ }
@@ -81,10 +81,26 @@ fn walk(g: Measure, s: &[u8], room: &mut [u8], most: usize) -> usize
         let item = r.item;
         let here = core.at;
         let around = core.layout;
-        let moving = move_item(g, item, here, around);
-        if let Moving::To(there) = moving {
+        let drawing = core.raster;
+        let change = change_item(g, item, here, around, drawing);
+        if let Change::To(there) = change {
             end = write_done(s, item, Finding::Nothing, &core.seed, g.wide, room, end);
             core.at = there;
+            sequence = r.sequence;
+            at = r.next;
+            continue;
+        }
+        if let Change::Laid(there, laid) = change {
+            end = write_done(s, item, Finding::Nothing, &core.seed, g.wide, room, end);
+            core.at = there;
+            core.layout = laid;
+            sequence = r.sequence;
+            at = r.next;
+            continue;
+        }
+        if let Change::Drawn(raster) = change {
+            end = write_done(s, item, Finding::Nothing, &core.seed, g.wide, room, end);
+            core.raster = raster;
             sequence = r.sequence;
             at = r.next;
             continue;

@@ -1,6 +1,6 @@
 -- `run::ready_page` meets its contract. Assumes nothing.
 use Rattle.common.proofs.Choices.{choices, compound}
-use Rattle.run.proofs.Turns.{cleared}
+use Rattle.run.proofs.Ready.{cleared}
 use borrow.Author.Needs.{needs}
 use Rattle.run.proofs.ready_page.Statement.{statement}
 use Rattle.run.proofs.ready_page.Tie as tie

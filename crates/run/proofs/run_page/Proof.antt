@@ -1,5 +1,5 @@
 -- `run::run_page` meets its contract. Assumes nothing.
-use Rattle.run.proofs.Turns.{run-ready}
+use Rattle.run.proofs.Ready.{run-ready}
 use borrow.Author.Needs.{needs}
 use Rattle.run.proofs.run_page.Statement.{statement}
 use Rattle.run.proofs.run_page.Tie as tie

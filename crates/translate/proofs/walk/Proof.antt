@@ -1,6 +1,6 @@
 -- `translate::walk` meets its contract. Assumes nothing.
-use Rattle.translate.proofs.Telling.{Telling, telling-first, telling-long, telling-small, telling-beyond, telling-over, telling-seed, telling-less, telling-more, telling-text, text-less, telling-moves, moves-less, seed-there}
-use Rattle.run.proofs.Turns.{text-told}
+use Rattle.translate.proofs.Telling.{Telling, telling-first, telling-long, telling-small, telling-beyond, telling-over, telling-seed, telling-less, telling-more, telling-text, text-less, to-less, telling-to, laid-less, telling-laid, drawn-less, telling-drawn, seed-there}
+use Rattle.turns.proofs.Turns.{text-told}
 use Rattle.theorems.proofs.Reading.{left}
 use Rattle.theorems.specs.Facts.{Fits}
 use Rattle.rules.specs.States.{stateOf}
@@ -68,23 +68,44 @@ returns-2 c = telling-over _ (c .before .before .before .before .before .loop .i
 read-item-requires : tie.Need-read-item-requires Inv-loop μ-loop
 read-item-requires c κs = search needs
 
-move-item-requires : tie.Need-move-item-requires Inv-loop μ-loop
-move-item-requires c κs = search needs
+change-item-requires : tie.Need-change-item-requires Inv-loop μ-loop
+change-item-requires c κs = search needs
 
-enum-known-moving : tie.Need-enum-known-moving Inv-loop μ-loop
-enum-known-moving c = search needs
+enum-known-change : tie.Need-enum-known-change Inv-loop μ-loop
+enum-known-change c = search needs
 
 write-done-requires : tie.Need-write-done-requires Inv-loop μ-loop
-write-done-requires c κs = (c .before .before .before .before .before .before .before .before .before .before .read-item .ensures .ordered, omega (arith, c .before .before .before .before .before .before .before .before .before .before .read-item .ensures .ended, c .before .before .before .before .before .before .before .before .before .before .read-item .ensures .inside, c .before .before .before .before .before .before .before .before .before .before .before .before .before .before .before .before .loop .inv .2 .inside), c .before .before .before .before .before .before .before .before .before .before .read-item .ensures .counted, c .before .before .before .before .before .before .before .before .before .before .before .before .before .before .before .before .loop .inv .0 .wide, seed-there _ (c .before .before .before .before .before .before .before .before .before .before .before .before .before .before .before .before .loop .inv .0) _ _ _ _ _ _ _ _ (c .before .before .before .before .before .before .before .before .before .before .before .before .before .before .before .before .loop .inv .2), telling-small _ (c .before .before .before .before .before .before .before .before .before .before .before .before .before .before .before .before .loop .inv .0) _ _ _ _ _ _ (c .before .before .before .before .before .before .before .before .before .before .before .before .before .before .before .before .loop .inv .2) (c .before .before .before .before .before .before .before .before .before .before .before .before .before .before .before .before .loop .inv .1))
+write-done-requires c κs = (c .before .before .before .before .before .before .before .before .before .before .before .read-item .ensures .ordered, omega (arith, c .before .before .before .before .before .before .before .before .before .before .before .read-item .ensures .ended, c .before .before .before .before .before .before .before .before .before .before .before .read-item .ensures .inside, c .before .before .before .before .before .before .before .before .before .before .before .before .before .before .before .before .before .loop .inv .2 .inside), c .before .before .before .before .before .before .before .before .before .before .before .read-item .ensures .counted, c .before .before .before .before .before .before .before .before .before .before .before .before .before .before .before .before .before .loop .inv .0 .wide, seed-there _ (c .before .before .before .before .before .before .before .before .before .before .before .before .before .before .before .before .before .loop .inv .0) _ _ _ _ _ _ _ _ (c .before .before .before .before .before .before .before .before .before .before .before .before .before .before .before .before .before .loop .inv .2), telling-small _ (c .before .before .before .before .before .before .before .before .before .before .before .before .before .before .before .before .before .loop .inv .0) _ _ _ _ _ _ (c .before .before .before .before .before .before .before .before .before .before .before .before .before .before .before .before .before .loop .inv .2) (c .before .before .before .before .before .before .before .before .before .before .before .before .before .before .before .before .before .loop .inv .1))
 
 loop-less-2 : tie.Need-loop-less-2 Inv-loop μ-loop
-loop-less-2 c = moves-less _ (c .before .before .before .before .before .before .before .before .before .before .before .before .before .before .before .before .before .before .before .loop .inv .0) _ _ _ _ _ _ _ _ (c .before .before .before .before .before .before .before .before .before .before .before .before .before .before .before .before .before .before .before .loop .inv .2) _ (c .before .before .before .before .before .before .before .before .before .before .before .before .before .before .before .is-over .ensures) (c .before .before .before .before .before .before .before .before .before .before .before .before .before .before .if3 .left) _ _ _ (c .before .before .before .before .before .before .before .before .before .before .before .before .before .read-item .ensures) (c .before .before .before .before .before .before .before .before .before .before .move-item .ensures) (c .before .before .before .before .before .before .before .before .moving .given .1)
+loop-less-2 c = to-less _ (c .before .before .before .before .before .before .before .before .before .before .before .before .before .before .before .before .before .before .before .before .loop .inv .0) _ _ _ _ _ _ _ _ (c .before .before .before .before .before .before .before .before .before .before .before .before .before .before .before .before .before .before .before .before .loop .inv .2) _ (c .before .before .before .before .before .before .before .before .before .before .before .before .before .before .before .before .is-over .ensures) (c .before .before .before .before .before .before .before .before .before .before .before .before .before .before .before .if3 .left) _ (c .before .before .before .before .before .before .before .before .before .before .before .before .before .before .read-item .ensures) _ (c .before .before .before .before .before .before .before .before .before .before .change-item .ensures) _ (c .before .before .before .before .before .before .before .before .change .given .1)
 
 loop-again-2 : tie.Need-loop-again-2 Inv-loop μ-loop
-loop-again-2 c = (c .before .before .before .before .before .before .before .before .before .before .before .before .before .before .before .before .before .before .before .loop .inv .0, c .before .before .before .before .before .before .before .before .before .before .before .before .before .before .before .before .before .before .before .loop .inv .1, telling-moves _ (c .before .before .before .before .before .before .before .before .before .before .before .before .before .before .before .before .before .before .before .loop .inv .0) _ _ _ _ _ _ _ _ (c .before .before .before .before .before .before .before .before .before .before .before .before .before .before .before .before .before .before .before .loop .inv .2) _ (c .before .before .before .before .before .before .before .before .before .before .before .before .before .before .before .is-over .ensures) (c .before .before .before .before .before .before .before .before .before .before .before .before .before .before .if3 .left) _ _ _ (c .before .before .before .before .before .before .before .before .before .before .before .before .before .read-item .ensures) (c .before .before .before .before .before .before .before .before .before .before .move-item .ensures) (c .before .before .before .before .before .before .before .before .moving .given .1) _ _ (c .before .before .write-done .ensures))
+loop-again-2 c = (c .before .before .before .before .before .before .before .before .before .before .before .before .before .before .before .before .before .before .before .before .loop .inv .0, c .before .before .before .before .before .before .before .before .before .before .before .before .before .before .before .before .before .before .before .before .loop .inv .1, telling-to _ (c .before .before .before .before .before .before .before .before .before .before .before .before .before .before .before .before .before .before .before .before .loop .inv .0) _ _ _ _ _ _ _ _ (c .before .before .before .before .before .before .before .before .before .before .before .before .before .before .before .before .before .before .before .before .loop .inv .2) _ (c .before .before .before .before .before .before .before .before .before .before .before .before .before .before .before .before .is-over .ensures) (c .before .before .before .before .before .before .before .before .before .before .before .before .before .before .before .if3 .left) _ (c .before .before .before .before .before .before .before .before .before .before .before .before .before .before .read-item .ensures) _ (c .before .before .before .before .before .before .before .before .before .before .change-item .ensures) _ (c .before .before .before .before .before .before .before .before .change .given .1) _ _ (c .before .before .write-done .ensures))
 
-enum-told : tie.Need-enum-told Inv-loop μ-loop
-enum-told c = search needs
+enum-known-change-2 : tie.Need-enum-known-change-2 Inv-loop μ-loop
+enum-known-change-2 c = search needs
+
+write-done-requires-2 : tie.Need-write-done-requires-2 Inv-loop μ-loop
+write-done-requires-2 c κs = (c .before .before .before .before .before .before .before .before .before .before .before .before .read-item .ensures .ordered, omega (arith, c .before .before .before .before .before .before .before .before .before .before .before .before .read-item .ensures .ended, c .before .before .before .before .before .before .before .before .before .before .before .before .read-item .ensures .inside, c .before .before .before .before .before .before .before .before .before .before .before .before .before .before .before .before .before .before .loop .inv .2 .inside), c .before .before .before .before .before .before .before .before .before .before .before .before .read-item .ensures .counted, c .before .before .before .before .before .before .before .before .before .before .before .before .before .before .before .before .before .before .loop .inv .0 .wide, seed-there _ (c .before .before .before .before .before .before .before .before .before .before .before .before .before .before .before .before .before .before .loop .inv .0) _ _ _ _ _ _ _ _ (c .before .before .before .before .before .before .before .before .before .before .before .before .before .before .before .before .before .before .loop .inv .2), telling-small _ (c .before .before .before .before .before .before .before .before .before .before .before .before .before .before .before .before .before .before .loop .inv .0) _ _ _ _ _ _ (c .before .before .before .before .before .before .before .before .before .before .before .before .before .before .before .before .before .before .loop .inv .2) (c .before .before .before .before .before .before .before .before .before .before .before .before .before .before .before .before .before .before .loop .inv .1))
+
+loop-less-3 : tie.Need-loop-less-3 Inv-loop μ-loop
+loop-less-3 c = laid-less _ (c .before .before .before .before .before .before .before .before .before .before .before .before .before .before .before .before .before .before .before .before .before .loop .inv .0) _ _ _ _ _ _ _ _ (c .before .before .before .before .before .before .before .before .before .before .before .before .before .before .before .before .before .before .before .before .before .loop .inv .2) _ (c .before .before .before .before .before .before .before .before .before .before .before .before .before .before .before .before .before .is-over .ensures) (c .before .before .before .before .before .before .before .before .before .before .before .before .before .before .before .before .if3 .left) _ (c .before .before .before .before .before .before .before .before .before .before .before .before .before .before .before .read-item .ensures) _ (c .before .before .before .before .before .before .before .before .before .before .before .change-item .ensures) _ _ (c .before .before .before .before .before .before .before .before .change2 .given .1)
+
+loop-again-3 : tie.Need-loop-again-3 Inv-loop μ-loop
+loop-again-3 c = (c .before .before .before .before .before .before .before .before .before .before .before .before .before .before .before .before .before .before .before .before .before .loop .inv .0, c .before .before .before .before .before .before .before .before .before .before .before .before .before .before .before .before .before .before .before .before .before .loop .inv .1, telling-laid _ (c .before .before .before .before .before .before .before .before .before .before .before .before .before .before .before .before .before .before .before .before .before .loop .inv .0) _ _ _ _ _ _ _ _ (c .before .before .before .before .before .before .before .before .before .before .before .before .before .before .before .before .before .before .before .before .before .loop .inv .2) _ (c .before .before .before .before .before .before .before .before .before .before .before .before .before .before .before .before .before .is-over .ensures) (c .before .before .before .before .before .before .before .before .before .before .before .before .before .before .before .before .if3 .left) _ (c .before .before .before .before .before .before .before .before .before .before .before .before .before .before .before .read-item .ensures) _ (c .before .before .before .before .before .before .before .before .before .before .before .change-item .ensures) _ _ (c .before .before .before .before .before .before .before .before .change2 .given .1) _ _ (c .before .before .write-done2 .ensures))
+
+enum-known-change-3 : tie.Need-enum-known-change-3 Inv-loop μ-loop
+enum-known-change-3 c = search needs
+
+write-done-requires-3 : tie.Need-write-done-requires-3 Inv-loop μ-loop
+write-done-requires-3 c κs = (c .before .before .before .before .before .before .before .before .before .before .before .before .before .read-item .ensures .ordered, omega (arith, c .before .before .before .before .before .before .before .before .before .before .before .before .before .read-item .ensures .ended, c .before .before .before .before .before .before .before .before .before .before .before .before .before .read-item .ensures .inside, c .before .before .before .before .before .before .before .before .before .before .before .before .before .before .before .before .before .before .before .loop .inv .2 .inside), c .before .before .before .before .before .before .before .before .before .before .before .before .before .read-item .ensures .counted, c .before .before .before .before .before .before .before .before .before .before .before .before .before .before .before .before .before .before .before .loop .inv .0 .wide, seed-there _ (c .before .before .before .before .before .before .before .before .before .before .before .before .before .before .before .before .before .before .before .loop .inv .0) _ _ _ _ _ _ _ _ (c .before .before .before .before .before .before .before .before .before .before .before .before .before .before .before .before .before .before .before .loop .inv .2), telling-small _ (c .before .before .before .before .before .before .before .before .before .before .before .before .before .before .before .before .before .before .before .loop .inv .0) _ _ _ _ _ _ (c .before .before .before .before .before .before .before .before .before .before .before .before .before .before .before .before .before .before .before .loop .inv .2) (c .before .before .before .before .before .before .before .before .before .before .before .before .before .before .before .before .before .before .before .loop .inv .1))
+
+loop-less-4 : tie.Need-loop-less-4 Inv-loop μ-loop
+loop-less-4 c = drawn-less _ (c .before .before .before .before .before .before .before .before .before .before .before .before .before .before .before .before .before .before .before .before .before .before .loop .inv .0) _ _ _ _ _ _ _ _ (c .before .before .before .before .before .before .before .before .before .before .before .before .before .before .before .before .before .before .before .before .before .before .loop .inv .2) _ (c .before .before .before .before .before .before .before .before .before .before .before .before .before .before .before .before .before .before .is-over .ensures) (c .before .before .before .before .before .before .before .before .before .before .before .before .before .before .before .before .before .if3 .left) _ (c .before .before .before .before .before .before .before .before .before .before .before .before .before .before .before .before .read-item .ensures) _ (c .before .before .before .before .before .before .before .before .before .before .before .before .change-item .ensures) _ (c .before .before .before .before .before .before .before .before .change3 .given .1)
+
+loop-again-4 : tie.Need-loop-again-4 Inv-loop μ-loop
+loop-again-4 c = (c .before .before .before .before .before .before .before .before .before .before .before .before .before .before .before .before .before .before .before .before .before .before .loop .inv .0, c .before .before .before .before .before .before .before .before .before .before .before .before .before .before .before .before .before .before .before .before .before .before .loop .inv .1, telling-drawn _ (c .before .before .before .before .before .before .before .before .before .before .before .before .before .before .before .before .before .before .before .before .before .before .loop .inv .0) _ _ _ _ _ _ _ _ (c .before .before .before .before .before .before .before .before .before .before .before .before .before .before .before .before .before .before .before .before .before .before .loop .inv .2) _ (c .before .before .before .before .before .before .before .before .before .before .before .before .before .before .before .before .before .before .is-over .ensures) (c .before .before .before .before .before .before .before .before .before .before .before .before .before .before .before .before .before .if3 .left) _ (c .before .before .before .before .before .before .before .before .before .before .before .before .before .before .before .before .read-item .ensures) _ (c .before .before .before .before .before .before .before .before .before .before .before .before .change-item .ensures) _ (c .before .before .before .before .before .before .before .before .change3 .given .1) _ _ (c .before .before .write-done3 .ensures))
 
 sub-do-item : tie.Need-sub-do-item Inv-loop μ-loop
 sub-do-item c = search needs
@@ -96,16 +117,16 @@ part-do-item-end : tie.Need-part-do-item-end Inv-loop μ-loop
 part-do-item-end c = search needs
 
 do-item-requires : tie.Need-do-item-requires Inv-loop μ-loop
-do-item-requires c κs = ((c .before .before .before .before .before .before .before .before .before .before .before .before .loop .inv .0 .wide, c .before .before .before .before .before .before .before .before .before .before .before .before .loop .inv .0 .high, c .before .before .before .before .before .before .before .before .before .before .before .before .loop .inv .2 .sound .core .seed), (c .before .before .before .before .before .before .read-item .ensures .ordered, omega (arith, c .before .before .before .before .before .before .read-item .ensures .ended, c .before .before .before .before .before .before .read-item .ensures .inside, c .before .before .before .before .before .before .before .before .before .before .before .before .loop .inv .2 .inside)))
+do-item-requires c κs = ((c .before .before .before .before .before .before .before .before .before .before .before .before .before .before .loop .inv .0 .wide, c .before .before .before .before .before .before .before .before .before .before .before .before .before .before .loop .inv .0 .high, c .before .before .before .before .before .before .before .before .before .before .before .before .before .before .loop .inv .2 .sound .core .seed), (c .before .before .before .before .before .before .before .before .read-item .ensures .ordered, omega (arith, c .before .before .before .before .before .before .before .before .read-item .ensures .ended, c .before .before .before .before .before .before .before .before .read-item .ensures .inside, c .before .before .before .before .before .before .before .before .before .before .before .before .before .before .loop .inv .2 .inside)))
 
-write-done-requires-2 : tie.Need-write-done-requires-2 Inv-loop μ-loop
-write-done-requires-2 c κs = (c .before .before .before .before .before .before .before .before .before .before .before .before .before .before .before .read-item .ensures .ordered, omega (arith, c .before .before .before .before .before .before .before .before .before .before .before .before .before .before .before .read-item .ensures .ended, c .before .before .before .before .before .before .before .before .before .before .before .before .before .before .before .read-item .ensures .inside, c .before .before .before .before .before .before .before .before .before .before .before .before .before .before .before .before .before .before .before .before .before .loop .inv .2 .inside), c .before .before .before .before .before .before .before .before .before .before .before .before .before .before .before .read-item .ensures .counted, c .before .before .before .before .before .before .before .before .before .before .before .before .before .before .before .before .before .before .before .before .before .loop .inv .0 .wide, telling-seed _ (c .before .before .before .before .before .before .before .before .before .before .before .before .before .before .before .before .before .before .before .before .before .loop .inv .0) _ _ _ _ _ _ (c .before .before .before .before .before .before .before .before .before .before .before .before .before .before .before .before .before .before .before .before .before .loop .inv .2) _ (c .before .before .before .before .before .before .before .before .before .before .before .before .before .before .before .before .before .is-over .ensures) (c .before .before .before .before .before .before .before .before .before .before .before .before .before .before .before .before .if3 .left) _ _ _ _ (c .before .before .before .before .before .before .before .before .before .before .before .before .before .before .before .read-item .ensures) (c .before .before .before .before .before .before .before .before .do-item .ensures), telling-small _ (c .before .before .before .before .before .before .before .before .before .before .before .before .before .before .before .before .before .before .before .before .before .loop .inv .0) _ _ _ _ _ _ (c .before .before .before .before .before .before .before .before .before .before .before .before .before .before .before .before .before .before .before .before .before .loop .inv .2) (c .before .before .before .before .before .before .before .before .before .before .before .before .before .before .before .before .before .before .before .before .before .loop .inv .1))
+write-done-requires-4 : tie.Need-write-done-requires-4 Inv-loop μ-loop
+write-done-requires-4 c κs = (c .before .before .before .before .before .before .before .before .before .before .before .before .before .before .before .before .before .read-item .ensures .ordered, omega (arith, c .before .before .before .before .before .before .before .before .before .before .before .before .before .before .before .before .before .read-item .ensures .ended, c .before .before .before .before .before .before .before .before .before .before .before .before .before .before .before .before .before .read-item .ensures .inside, c .before .before .before .before .before .before .before .before .before .before .before .before .before .before .before .before .before .before .before .before .before .before .before .loop .inv .2 .inside), c .before .before .before .before .before .before .before .before .before .before .before .before .before .before .before .before .before .read-item .ensures .counted, c .before .before .before .before .before .before .before .before .before .before .before .before .before .before .before .before .before .before .before .before .before .before .before .loop .inv .0 .wide, telling-seed _ (c .before .before .before .before .before .before .before .before .before .before .before .before .before .before .before .before .before .before .before .before .before .before .before .loop .inv .0) _ _ _ _ _ _ (c .before .before .before .before .before .before .before .before .before .before .before .before .before .before .before .before .before .before .before .before .before .before .before .loop .inv .2) _ (c .before .before .before .before .before .before .before .before .before .before .before .before .before .before .before .before .before .before .before .is-over .ensures) (c .before .before .before .before .before .before .before .before .before .before .before .before .before .before .before .before .before .before .if3 .left) _ _ _ _ (c .before .before .before .before .before .before .before .before .before .before .before .before .before .before .before .before .before .read-item .ensures) (c .before .before .before .before .before .before .before .before .do-item .ensures), telling-small _ (c .before .before .before .before .before .before .before .before .before .before .before .before .before .before .before .before .before .before .before .before .before .before .before .loop .inv .0) _ _ _ _ _ _ (c .before .before .before .before .before .before .before .before .before .before .before .before .before .before .before .before .before .before .before .before .before .before .before .loop .inv .2) (c .before .before .before .before .before .before .before .before .before .before .before .before .before .before .before .before .before .before .before .before .before .before .before .loop .inv .1))
 
-loop-less-3 : tie.Need-loop-less-3 Inv-loop μ-loop
-loop-less-3 c = telling-less _ (c .before .before .before .before .before .before .before .before .before .before .before .before .before .before .before .before .before .before .before .before .before .before .before .before .loop .inv .0) _ _ _ _ _ _ (c .before .before .before .before .before .before .before .before .before .before .before .before .before .before .before .before .before .before .before .before .before .before .before .before .loop .inv .2) _ (c .before .before .before .before .before .before .before .before .before .before .before .before .before .before .before .before .before .before .before .before .is-over .ensures) (c .before .before .before .before .before .before .before .before .before .before .before .before .before .before .before .before .before .before .before .if3 .left) _ _ _ _ (c .before .before .before .before .before .before .before .before .before .before .before .before .before .before .before .before .before .before .read-item .ensures) (c .before .before .before .before .before .before .before .before .before .before .before .do-item .ensures)
+loop-less-5 : tie.Need-loop-less-5 Inv-loop μ-loop
+loop-less-5 c = telling-less _ (c .before .before .before .before .before .before .before .before .before .before .before .before .before .before .before .before .before .before .before .before .before .before .before .before .before .before .loop .inv .0) _ _ _ _ _ _ (c .before .before .before .before .before .before .before .before .before .before .before .before .before .before .before .before .before .before .before .before .before .before .before .before .before .before .loop .inv .2) _ (c .before .before .before .before .before .before .before .before .before .before .before .before .before .before .before .before .before .before .before .before .before .before .is-over .ensures) (c .before .before .before .before .before .before .before .before .before .before .before .before .before .before .before .before .before .before .before .before .before .if3 .left) _ _ _ _ (c .before .before .before .before .before .before .before .before .before .before .before .before .before .before .before .before .before .before .before .before .read-item .ensures) (c .before .before .before .before .before .before .before .before .before .before .before .do-item .ensures)
 
-loop-again-3 : tie.Need-loop-again-3 Inv-loop μ-loop
-loop-again-3 c = (c .before .before .before .before .before .before .before .before .before .before .before .before .before .before .before .before .before .before .before .before .before .before .before .before .loop .inv .0, c .before .before .before .before .before .before .before .before .before .before .before .before .before .before .before .before .before .before .before .before .before .before .before .before .loop .inv .1, telling-more _ (c .before .before .before .before .before .before .before .before .before .before .before .before .before .before .before .before .before .before .before .before .before .before .before .before .loop .inv .0) _ _ _ _ _ _ (c .before .before .before .before .before .before .before .before .before .before .before .before .before .before .before .before .before .before .before .before .before .before .before .before .loop .inv .2) _ (c .before .before .before .before .before .before .before .before .before .before .before .before .before .before .before .before .before .before .before .before .is-over .ensures) (c .before .before .before .before .before .before .before .before .before .before .before .before .before .before .before .before .before .before .before .if3 .left) _ _ _ _ (c .before .before .before .before .before .before .before .before .before .before .before .before .before .before .before .before .before .before .read-item .ensures) (c .before .before .before .before .before .before .before .before .before .before .before .do-item .ensures) (c .before .before .before .before .before .before .before .before .before .before .before .do-item .last .0) _ _ (c .before .before .before .before .before .before .before .before .before .before .room3 .given .0) (c .before .before .write-done2 .ensures))
+loop-again-5 : tie.Need-loop-again-5 Inv-loop μ-loop
+loop-again-5 c = (c .before .before .before .before .before .before .before .before .before .before .before .before .before .before .before .before .before .before .before .before .before .before .before .before .before .before .loop .inv .0, c .before .before .before .before .before .before .before .before .before .before .before .before .before .before .before .before .before .before .before .before .before .before .before .before .before .before .loop .inv .1, telling-more _ (c .before .before .before .before .before .before .before .before .before .before .before .before .before .before .before .before .before .before .before .before .before .before .before .before .before .before .loop .inv .0) _ _ _ _ _ _ (c .before .before .before .before .before .before .before .before .before .before .before .before .before .before .before .before .before .before .before .before .before .before .before .before .before .before .loop .inv .2) _ (c .before .before .before .before .before .before .before .before .before .before .before .before .before .before .before .before .before .before .before .before .before .before .is-over .ensures) (c .before .before .before .before .before .before .before .before .before .before .before .before .before .before .before .before .before .before .before .before .before .if3 .left) _ _ _ _ (c .before .before .before .before .before .before .before .before .before .before .before .before .before .before .before .before .before .before .before .before .read-item .ensures) (c .before .before .before .before .before .before .before .before .before .before .before .do-item .ensures) (c .before .before .before .before .before .before .before .before .before .before .before .do-item .last .0) _ _ (c .before .before .before .before .before .before .before .before .before .before .room5 .given .0) (c .before .before .write-done4 .ensures))
 
 pub walk-spec : {M : Type 1} → statement M
 walk-spec =
@@ -130,16 +151,23 @@ walk-spec =
     same-length-2
     returns-2
     read-item-requires
-    move-item-requires
-    enum-known-moving
+    change-item-requires
+    enum-known-change
     write-done-requires
     loop-less-2
     loop-again-2
-    enum-told
+    enum-known-change-2
+    write-done-requires-2
+    loop-less-3
+    loop-again-3
+    enum-known-change-3
+    write-done-requires-3
+    loop-less-4
+    loop-again-4
     sub-do-item
     part-do-item-start
     part-do-item-end
     do-item-requires
-    write-done-requires-2
-    loop-less-3
-    loop-again-3)
+    write-done-requires-4
+    loop-less-5
+    loop-again-5)

@@ -1,0 +1,11 @@
+-- `changes::end_at` meets its contract. Assumes nothing.
+use Rattle.changes.proofs.Changing.{end}
+use borrow.Author.Needs.{needs}
+use Rattle.changes.proofs.end_at.Statement.{statement}
+use Rattle.changes.proofs.end_at.Tie as tie
+
+returns : tie.Need-returns
+returns c = λ g v p l. end g v p l _
+
+pub end-at-spec : {M : Type 1} → statement M
+end-at-spec = tie.close (tie.spec returns)

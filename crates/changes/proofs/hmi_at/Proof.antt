@@ -1,0 +1,17 @@
+-- `changes::hmi_at` meets its contract. Assumes nothing.
+use Rattle.changes.proofs.Changing.{hmi}
+use borrow.Author.Needs.{needs}
+use Rattle.changes.proofs.hmi_at.Statement.{statement}
+use Rattle.changes.proofs.hmi_at.Tie as tie
+
+mul-n : tie.Need-mul-n
+mul-n c = search needs
+
+cast-n : tie.Need-cast-n
+cast-n c = search needs
+
+returns : tie.Need-returns
+returns c = λ g v q e. hmi g v _ _ q _ e
+
+pub hmi-at-spec : {M : Type 1} → statement M
+hmi-at-spec = tie.close (tie.spec mul-n cast-n returns)

@@ -1,0 +1,176 @@
+// The items of a run, one after the other, on the page's own bytes: what `run` does once a call is taken and the page is ready.
+// Nothing is refused. A run stops early only after a finding, a page end or the stream's end.
+ghost use mathlib.Core.Path.{_≡_};
+ghost use mathlib.Core.Bool.{not, _&&_};
+ghost use Prim.Native.Nat.{_≤_};
+ghost use lib.ListN.{length, drop};
+ghost use Rattle.common.specs.Lists.{isNil};
+ghost use Rattle.rules.specs.Findings.{isClean};
+ghost use Rattle.rules.specs.Items.{isText};
+ghost use Rattle.rules.specs.Acts.{isClosed};
+ghost use Rattle.rules.specs.Run.{placeOf, runFrom};
+ghost use Rattle.theorems.specs.Facts.{Fits, Shaped, SoundState};
+ghost use Rattle.turns.specs.Turns.{textNext, RunsOn};
+use changes::Change;
+use items::change_item;
+use items::do_item;
+use items::is_clean;
+use reader::read_item;
+use rules::Finding;
+use rules::Measure;
+use rules::Ran;
+use rules::Sequence;
+use rules::State;
+use rules::Verdict;
+use text::marked;
+use text::typed_at;
+
+// Whether no sequence is open.
+fn is_closed(q: Sequence) -> bool
+    ensures { λ r. ⌜ r ≡ isClosed q ⌝ }
+{
+    match q {
+        Sequence::Closed => true,
+        Sequence::Open { first: _, group: _ } => false,
+    }
+}
+
+// Whether there is no item to do: the stream's end, and no sequence open.
+pub fn is_over(s: &[u8], at: usize, q: Sequence) -> bool
+    ensures { λ r. ⌜ r ≡ (isClosed q && isNil (drop at (now (s .entry)))) ⌝ }
+{
+    if at < s.len() { false } else { is_closed(q) }
+}
+
+// Space and text.
+fn is_text(b: u8) -> bool
+    ensures { λ r. ⌜ r ≡ isText b ⌝ }
+{
+    if b < 32 { false } else { b != 127 }
+}
+
+// Whether the next item is space or text: the cursor moves, and nothing else is to be looked at.
+pub fn text_next(s: &[u8], at: usize, q: Sequence) -> bool
+    ensures { λ r. ⌜ r ≡ textNext (now (s .entry)) at q ⌝ }
+{
+    if s.len() <= at {
+        return false;
+    }
+    if is_closed(q) { is_text(s[at]) } else { false }
+}
+
+// Whether a run goes on behind an item: it had no finding and ended no page.
+fn goes_on(f: Finding, ended: bool) -> bool
+    ensures { λ r. ⌜ r ≡ (isClean f && not ended) ⌝ }
+{
+    if is_clean(f) { !ended } else { false }
+}
+
+// A finding's place, 0 where there is none.
+fn place_of(f: Finding, at: usize) -> usize
+    ensures { λ r. ⌜ r ≡ placeOf f at ⌝ }
+{
+    if is_clean(f) { 0 } else { at }
+}
+
+// The items of a run. Text is done here, byte by byte: only the cursor moves, and the page is used. So are commands that change little.
+// The core is large: it is kept in one place and changed there, and a state is made of it only at the end.
+pub fn run_items(
+    page: &mut [u8],
+    g: Measure,
+    s: &[u8],
+    t: State,
+    place: usize,
+    allowance: usize,
+) -> Ran
+    requires { ⌜ (place ≤ length (now s)) × Fits g × Shaped (t .core) × SoundState g t ⌝ }
+    ensures { λ r. ⌜ RunsOn (runFrom g allowance 0 place t (now (page .entry)) (drop place (now (s .entry)))) r (now (page .exit)) ⌝ }
+{
+    let mut core = t.core;
+    let mut beside = t.beside;
+    let mut sequence = t.sequence;
+    let mut at = place;
+    let mut done: usize = 0;
+    let mut finding = Finding::Nothing;
+    let mut found: usize = 0;
+    let mut ended = false;
+    while done < allowance {
+        if text_next(s, at, sequence) {
+            let from = core.at;
+            let layout = core.layout;
+            let to = typed_at(g, from, layout);
+            let used = marked(core.used, s[at]);
+            core.at = to;
+            core.used = used;
+            at += 1;
+            done += 1;
+            continue;
+        }
+        if is_over(s, at, sequence) {
+            break;
+        }
+        let begins = at;
+        let r = read_item(s, at, sequence);
+        let item = r.item;
+        let here = core.at;
+        let around = core.layout;
+        let drawing = core.raster;
+        let change = change_item(g, item, here, around, drawing);
+        if let Change::To(there) = change {
+            core.at = there;
+            sequence = r.sequence;
+            at = r.next;
+            done += 1;
+            continue;
+        }
+        if let Change::Laid(there, laid) = change {
+            core.at = there;
+            core.layout = laid;
+            sequence = r.sequence;
+            at = r.next;
+            done += 1;
+            continue;
+        }
+        if let Change::Drawn(raster) = change {
+            core.raster = raster;
+            sequence = r.sequence;
+            at = r.next;
+            done += 1;
+            continue;
+        }
+        if let Change::Fresh(raster) = change {
+            core.raster = raster;
+            core.seed = [0u8; 600];
+            sequence = r.sequence;
+            at = r.next;
+            done += 1;
+            continue;
+        }
+        let a = do_item(page, g, s, item, core, beside);
+        core = a.core;
+        beside = a.beside;
+        sequence = r.sequence;
+        at = r.next;
+        done += 1;
+        finding = a.finding;
+        ended = a.ended;
+        if !goes_on(finding, ended) {
+            found = place_of(finding, begins);
+            break;
+        }
+    }
+    let state = State {
+        core,
+        beside,
+        sequence,
+    };
+    Ran {
+        verdict: Verdict::Carried,
+        state,
+        place: at,
+        finding,
+        found,
+        ended,
+        done,
+    }
+}
