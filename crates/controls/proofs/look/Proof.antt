@@ -1,4 +1,4 @@
--- `rows::look` meets its contract: the loop's invariant: the payload is whole where it is whole from here on. The measure is what is left of it. Assumes nothing.
+-- `controls::look` meets its contract: the loop's invariant: the payload is whole where it is whole from here on. The measure is what is left of it. Assumes nothing.
 use mathlib.Core.Path.{_≡_}
 use Prim.Native.Nat.{_-_}
 use lib.ListN.{length}

@@ -1,4 +1,4 @@
--- `dots::make_ink` meets its contract: the bytes before j are made. Assumes nothing.
+-- `ink::make_ink` meets its contract: the bytes before j are made. Assumes nothing.
 use mathlib.Core.Path.{_≡_}
 use Prim.Native.Nat.{_-_, _%_, _≤_}
 use native.Mathlib.Omega.{arith}

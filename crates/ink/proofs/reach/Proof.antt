@@ -1,4 +1,4 @@
--- `dots::reach` meets its contract. Assumes nothing.
+-- `ink::reach` meets its contract. Assumes nothing.
 use native.Mathlib.Omega.{arith}
 use borrow.Author.Needs.{needs}
 use Rattle.ink.proofs.Inks.{reaches, ink-room}

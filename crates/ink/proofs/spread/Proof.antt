@@ -1,4 +1,4 @@
--- `dots::spread` meets its contract. Assumes nothing.
+-- `ink::spread` meets its contract. Assumes nothing.
 use borrow.Author.Needs.{needs}
 use Rattle.ink.proofs.Inks.{spread-one, spread-told, spread-last}
 use Rattle.ink.proofs.spread.Statement.{statement}

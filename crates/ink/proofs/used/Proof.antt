@@ -1,4 +1,4 @@
--- `dots::used` meets its contract: the bytes from e on are zero. Assumes nothing.
+-- `ink::used` meets its contract: the bytes from e on are zero. Assumes nothing.
 use borrow.Author.Needs.{needs}
 use Rattle.ink.specs.Ink.{Used}
 use Rattle.ink.proofs.Inks.{used-all, used-less, used-none}

@@ -1,4 +1,4 @@
--- `number::decimal_length` meets its contract. The loop's invariant: the digits counted and those left are one more than all; the measure is what is left. Assumes nothing.
+-- `lengths::decimal_length` meets its contract. The loop's invariant: the digits counted and those left are one more than all; the measure is what is left. Assumes nothing.
 use borrow.Author.Needs.{needs}
 use Rattle.written.proofs.Laws.{decimal-short, decimal-some}
 use Rattle.lengths.proofs.Counting.{Numbering, numbering-again, numbering-end}

@@ -1,4 +1,4 @@
--- `number::places_length` meets its contract. The loop's invariant: the places counted and those left are all; the measure is their unit. Assumes nothing.
+-- `lengths::places_length` meets its contract. The loop's invariant: the places counted and those left are all; the measure is their unit. Assumes nothing.
 use borrow.Author.Needs.{needs}
 use Rattle.lengths.proofs.Counting.{Remaining, remaining-start, remaining-again, remaining-end}
 use Rattle.lengths.proofs.places_length.Statement.{statement}

@@ -1,4 +1,4 @@
--- `number::size_length` meets its contract: with no places there is no point. Assumes nothing.
+-- `lengths::size_length` meets its contract: with no places there is no point. Assumes nothing.
 use borrow.Author.Needs.{needs}
 use Rattle.lengths.proofs.Counting.{counted-whole, counted-point}
 use Rattle.lengths.proofs.size_length.Statement.{statement}

@@ -1,4 +1,4 @@
--- `number::value_length` meets its contract: a sign is one byte more. Assumes nothing.
+-- `lengths::value_length` meets its contract: a sign is one byte more. Assumes nothing.
 use borrow.Author.Needs.{needs}
 use Rattle.lengths.proofs.Counting.{counted-absolute, counted-relative}
 use Rattle.lengths.proofs.value_length.Statement.{statement}

@@ -1,4 +1,4 @@
--- `dots::paint_inked` meets its contract. Assumes nothing.
+-- `paint::paint_inked` meets its contract. Assumes nothing.
 use borrow.Author.Needs.{needs}
 use Rattle.paint.proofs.Laying.{zeros-length, zeros-at, inked-inside, inked-length, ready-ink}
 use Rattle.paint.proofs.paint_inked.Statement.{statement}

@@ -1,4 +1,4 @@
--- `dots::paint_line` meets its contract. Assumes nothing.
+-- `paint::paint_line` meets its contract. Assumes nothing.
 use borrow.Author.Needs.{needs}
 use Rattle.paint.proofs.Laying.{laid}
 use Rattle.paint.proofs.paint_line.Statement.{statement}

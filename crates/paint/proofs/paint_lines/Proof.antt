@@ -1,4 +1,4 @@
--- `dots::paint_lines` meets its contract: the page rows before byte a are painted, n are to come. Assumes nothing.
+-- `paint::paint_lines` meets its contract: the page rows before byte a are painted, n are to come. Assumes nothing.
 use borrow.Author.Needs.{needs}
 use Rattle.paint.specs.Laid.{Ready}
 use Rattle.paint.proofs.Laying.{ready-row}

@@ -1,4 +1,4 @@
--- `dots::paint_rest` meets its contract. Assumes nothing.
+-- `paint::paint_rest` meets its contract. Assumes nothing.
 use borrow.Author.Needs.{needs}
 use Rattle.paint.proofs.Laying.{ready-slow}
 use Rattle.paint.proofs.Covers.{lines-blank}

@@ -1,4 +1,4 @@
--- `kept::put_flags` meets its contract. Assumes nothing.
+-- `stored::put_flags` meets its contract. Assumes nothing.
 use Rattle.stored.proofs.Puts.{wrote-flags}
 use borrow.Author.Needs.{needs}
 use Rattle.stored.proofs.put_flags.Statement.{statement}

@@ -1,4 +1,4 @@
--- `kept::put_front` meets its contract. Assumes nothing.
+-- `stored::put_front` meets its contract. Assumes nothing.
 use Rattle.stored.proofs.Puts.{wrote-front, wrote-inside}
 use borrow.Author.Needs.{needs}
 use Rattle.stored.proofs.put_front.Statement.{statement}

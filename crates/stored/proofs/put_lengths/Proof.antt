@@ -1,4 +1,4 @@
--- `kept::put_lengths` meets its contract. Assumes nothing.
+-- `stored::put_lengths` meets its contract. Assumes nothing.
 use Rattle.stored.proofs.Puts.{wrote-pairs}
 use borrow.Author.Needs.{needs}
 use Rattle.stored.proofs.put_lengths.Statement.{statement}

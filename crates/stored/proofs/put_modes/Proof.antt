@@ -1,4 +1,4 @@
--- `kept::put_modes` meets its contract. Assumes nothing.
+-- `stored::put_modes` meets its contract. Assumes nothing.
 use Rattle.stored.proofs.Puts.{wrote-four}
 use borrow.Author.Needs.{needs}
 use Rattle.stored.proofs.put_modes.Statement.{statement}

@@ -1,4 +1,4 @@
--- `kept::put_seed` meets its contract. Assumes nothing.
+-- `stored::put_seed` meets its contract. Assumes nothing.
 use mathlib.Core.Path.{_≡_}
 use Prim.Native.Nat.{_-_, _≤_}
 use lib.ListN.{length, take}

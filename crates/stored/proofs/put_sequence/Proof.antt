@@ -1,4 +1,4 @@
--- `kept::put_sequence` meets its contract. Assumes nothing.
+-- `stored::put_sequence` meets its contract. Assumes nothing.
 use Rattle.stored.proofs.Puts.{wrote-open, wrote-closed}
 use borrow.Author.Needs.{needs}
 use Rattle.stored.proofs.put_sequence.Statement.{statement}

@@ -1,4 +1,4 @@
--- `kept::put_stack` meets its contract. Assumes nothing.
+-- `stored::put_stack` meets its contract. Assumes nothing.
 use Rattle.rules.specs.Measure.{spot}
 use mathlib.Core.Path.{_≡_, refl, _∙_}
 use Prim.Native.Nat.{_-_, _≤_}

@@ -1,4 +1,4 @@
--- `kept::put_two` meets its contract. Assumes nothing.
+-- `stored::put_two` meets its contract. Assumes nothing.
 use Rattle.stored.proofs.Puts.{wrote-pair}
 use borrow.Author.Needs.{needs}
 use Rattle.stored.proofs.put_two.Statement.{statement}

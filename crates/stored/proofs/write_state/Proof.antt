@@ -1,4 +1,4 @@
--- `kept::write_state` meets its contract. Assumes nothing.
+-- `stored::write_state` meets its contract. Assumes nothing.
 use Rattle.stored.proofs.Puts.{wrote-state}
 use borrow.Author.Needs.{needs}
 use Rattle.stored.proofs.write_state.Statement.{statement}

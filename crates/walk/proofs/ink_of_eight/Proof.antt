@@ -1,4 +1,4 @@
--- `dots::ink_of_eight` meets its contract: after i turns i dots are packed. Assumes nothing.
+-- `walk::ink_of_eight` meets its contract: after i turns i dots are packed. Assumes nothing.
 use Prim.Native.Nat.{_-_, _≤_}
 use borrow.Author.Needs.{needs}
 use Rattle.walk.proofs.Walking.{Packing, packing-starts, packing-again, packing-ends}

@@ -1,4 +1,4 @@
--- `dots::onward` meets its contract. Assumes nothing.
+-- `walk::onward` meets its contract. Assumes nothing.
 use borrow.Author.Needs.{needs}
 use Rattle.walk.proofs.Walking.{next-byte}
 use Rattle.walk.proofs.onward.Statement.{statement}

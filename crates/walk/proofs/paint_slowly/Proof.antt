@@ -1,4 +1,4 @@
--- `dots::paint_slowly` meets its contract: after j turns j bytes are painted. Assumes nothing.
+-- `walk::paint_slowly` meets its contract: after j turns j bytes are painted. Assumes nothing.
 use Prim.Native.Nat.{_-_}
 use native.Mathlib.Omega.{arith}
 use lib.ListN.{length, length-set}

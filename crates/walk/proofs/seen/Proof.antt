@@ -1,4 +1,4 @@
--- `dots::seen` meets its contract. Assumes nothing.
+-- `walk::seen` meets its contract. Assumes nothing.
 use borrow.Author.Needs.{needs}
 use Rattle.walk.proofs.Walking.{saw}
 use Rattle.walk.proofs.seen.Statement.{statement}

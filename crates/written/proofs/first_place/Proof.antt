@@ -1,4 +1,4 @@
--- `number::first_place` meets its contract: the place is a digit. Assumes nothing.
+-- `written::first_place` meets its contract: the place is a digit. Assumes nothing.
 use native.Mathlib.Omega.{arith}
 use borrow.Author.Needs.{needs}
 use Rattle.written.proofs.Writing.{first-digit}

@@ -1,4 +1,4 @@
--- `number::put_byte` meets its contract: past the end nothing is stored. Assumes nothing.
+-- `written::put_byte` meets its contract: past the end nothing is stored. Assumes nothing.
 use borrow.Author.Needs.{needs}
 use Rattle.written.proofs.Writing.{wrote-full}
 use Rattle.written.proofs.put_byte.Statement.{statement}

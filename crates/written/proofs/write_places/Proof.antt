@@ -1,4 +1,4 @@
--- `number::write_places` meets its contract. The loop's invariant: with the places that are left all are written; the measure is their unit. Assumes nothing.
+-- `written::write_places` meets its contract. The loop's invariant: with the places that are left all are written; the measure is their unit. Assumes nothing.
 use borrow.Author.Needs.{needs}
 use Rattle.written.proofs.Writing.{Leaving, leaving-start, leaving-again, leaving-end}
 use Rattle.written.proofs.write_places.Statement.{statement}

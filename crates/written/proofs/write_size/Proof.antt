@@ -1,4 +1,4 @@
--- `number::write_size` meets its contract: with no places there is no point. Assumes nothing.
+-- `written::write_size` meets its contract: with no places there is no point. Assumes nothing.
 use borrow.Author.Needs.{needs}
 use Rattle.written.proofs.Writing.{wrote-whole, wrote-point}
 use Rattle.written.proofs.write_size.Statement.{statement}

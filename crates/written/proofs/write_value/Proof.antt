@@ -1,4 +1,4 @@
--- `number::write_value` meets its contract: a relative value is its sign and its size. Assumes nothing.
+-- `written::write_value` meets its contract: a relative value is its sign and its size. Assumes nothing.
 use borrow.Author.Needs.{needs}
 use Rattle.written.proofs.Writing.{wrote-absolute, wrote-relative}
 use Rattle.written.proofs.write_value.Statement.{statement}
