@@ -117,4 +117,5 @@ def main():
     sys.exit(1 if differ or missing or done < count + 60 else 0)
 
 
-main()
+if __name__ == "__main__":
+    main()

@@ -17,13 +17,18 @@ else
   x86_run() { "$x86_emulator" "$@"; }
 fi
 
-# archive CRATE: target/staticlib/libCRATE.a, proved and made where it is missing or older than a source. To be called at the project's root.
-archive() {
-  local made=target/staticlib/lib$1.a said
-  [ ! -f "$made" ] || [ -n "$(find crates crates.txt -newer "$made" -print -quit)" ] || return 0
-  said=$(rt staticlib "$1" 2>&1) || {
+# by_rt FILE RT-WORDS..: FILE, proved and made by this rt command where it is missing or older than a source. To be called at the project's root.
+by_rt() {
+  local file=$1 said
+  shift
+  [ ! -e "$file" ] || [ -n "$(find crates crates.txt -newer "$file" -print -quit)" ] || return 0
+  said=$(rt "$@" 2>&1) || {
     printf '%s\n' "$said" >&2
     exit 1
   }
-  touch "$made"
+  touch "$file"
 }
+
+# archive CRATE: target/staticlib/libCRATE.a. proved_program CRATE: target/bin/CRATE.
+archive() { by_rt "target/staticlib/lib$1.a" staticlib "$1"; }
+proved_program() { by_rt "target/bin/$1" check "$1"; }
