@@ -1,10 +1,35 @@
-/* Rovinuset for C: reading PCL, drawing pages, passing a job on as a plain stream. The archive of the crate `door`. A slice is a pointer
- * and a length; it may be empty, its pointer is then not read. Slices and numbers that are lent must not overlap. */
+/* Rovinuset for C and C++: reading PCL, drawing pages, passing a job on as a plain stream. The archive is target/librovinuset.a
+ * (./rovinuset archive); docs/DOOR.md has the tables: memory, numbers, how to go on. The calls may be made with any numbers and any bytes.
+ * Three things are the caller's: a slice is a pointer and a length, and has that many bytes (it may be empty, its pointer is then not
+ * read); `place`, `done`, `found`, `ended` and `length` point to numbers; what is lent to one call does not overlap.
+ * The library has no data of its own and allocates nothing: calls may run at the same time if no two share what one of them writes. */
 #ifndef ROVINUSET_H
 #define ROVINUSET_H
 #include <stdbool.h>
 #include <stddef.h>
 #include <stdint.h>
+
+#ifdef __cplusplus
+extern "C" {
+#endif
+
+/* What a call gives: 0, a finding (1 to 7: the call was carried out and stopped behind it) or a refusal (from 10 on: nothing was done). */
+enum {
+    ROV_NOTHING = 0,
+    ROV_ENDS_INSIDE = 1,    /* the stream ends inside a sequence, or payload is short */
+    ROV_CANNOT_STAND = 2,   /* a byte that can't stand there */
+    ROV_NOT_CARRIED = 3,    /* command not carried */
+    ROV_NOT_ALLOWED = 4,    /* value not allowed */
+    ROV_STACK_LIMIT = 5,    /* push when full, or pop when empty */
+    ROV_NOT_NOW = 6,        /* not allowed at this moment */
+    ROV_DAMAGED_ROW = 7,    /* damaged row: drawn as a row of zeros */
+    ROV_PAGE_MEASURE = 10,  /* W is a multiple of 8 from 8 to 4,800, H is 1 to 6,800: not so here */
+    ROV_PAGE_BUFFER = 11,   /* page buffer shorter than W/8 x H bytes */
+    ROV_STREAM_LENGTH = 12, /* stream longer than 1,048,576 bytes */
+    ROV_UNSOUND_STATE = 13, /* the bytes are no state that is sound on this page */
+    ROV_START_PLACE = 14,   /* start place after the end of the stream */
+    ROV_ROOM = 15           /* plain stream longer than the room, or than 1,048,576 bytes */
+};
 
 /* A state between calls, in ROV_STATE bytes that the caller keeps. Numbers are little-endian. */
 #define ROV_STATE 808
@@ -29,7 +54,7 @@ enum {
     ROV_SEED = 208        /* 600: seed row */
 };
 
-/* The state afresh for a page of W by H dots. 0; or 10 (measure not allowed) or 13 (n < ROV_STATE), and nothing is written. */
+/* The state afresh for a page of W by H dots. 0; or 10, or 13 (n < ROV_STATE), and nothing is written. */
 uint32_t rov_afresh(size_t W, size_t H, uint8_t *state, size_t n);
 
 /* Whether the bytes are a state that is sound on this page. false where the measure is not allowed or n < ROV_STATE. */
@@ -51,5 +76,9 @@ uint32_t rov_run(size_t W, size_t H, uint8_t *page, size_t page_n, const uint8_t
  * Gives 0: the first *length bytes of the room are the plain stream, the rest of it is untouched. Or the refusal: 10, 12, or 15 (the
  * plain stream is longer than room_n, or than 1,048,576 bytes): the room is untouched, *length is 0. */
 uint32_t rov_translate(size_t W, size_t H, const uint8_t *stream, size_t stream_n, uint8_t *room, size_t room_n, size_t *length);
+
+#ifdef __cplusplus
+}
+#endif
 
 #endif

@@ -1,10 +1,14 @@
 # Programs in C over an archive of rt's, which is for x86-64. To be sourced, with tests/need.sh before it.
-# x86_cc ARGS..: compiles for x86-64, with Debian's cross compiler where the machine is another.
+# x86_cc ARGS.., x86_cxx ARGS..: compiles C, or C++, for x86-64, with Debian's cross compiler where the machine is another.
 # x86_run PROGRAM WORDS..: runs such a program, under the kit's own emulator where the machine is another.
 if [ "$(uname -m)" = x86_64 ]; then
   x86_cc() {
     need gcc gcc
     gcc "$@"
+  }
+  x86_cxx() {
+    need g++ g++
+    g++ "$@"
   }
   x86_run() { "$@"; }
 else
@@ -13,6 +17,10 @@ else
   x86_cc() {
     need x86_64-linux-gnu-gcc gcc-x86-64-linux-gnu
     x86_64-linux-gnu-gcc -static "$@"
+  }
+  x86_cxx() {
+    need x86_64-linux-gnu-g++ g++-x86-64-linux-gnu
+    x86_64-linux-gnu-g++ -static "$@"
   }
   x86_run() { "$x86_emulator" "$@"; }
 fi

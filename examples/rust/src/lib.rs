@@ -1,0 +1,204 @@
+//! Rovinuset for Rust: include/rovinuset.h as safe functions. docs/DOOR.md has the tables.
+//!
+//! Nothing is tested here that the library tests: any measure, any bytes, any place and any allowance may be handed in, and what cannot
+//! be carried out comes back as a `Refusal`. What C leaves to its caller is left to the language: a slice has the bytes it says it has, and what is
+//! lent for writing is lent to nobody else, so nothing that is lent to one call overlaps. So each `unsafe` block below is one call, with no condition.
+#![no_std]
+
+/// The library for C. Nothing but the eye compares this with include/rovinuset.h.
+mod door {
+    extern "C" {
+        pub fn rov_afresh(w: usize, h: usize, state: *mut u8, n: usize) -> u32;
+        pub fn rov_sound(w: usize, h: usize, state: *const u8, n: usize) -> bool;
+        pub fn rov_dots(w: usize, h: usize, page: *const u8, n: usize) -> usize;
+        pub fn rov_run(
+            w: usize,
+            h: usize,
+            page: *mut u8,
+            page_n: usize,
+            stream: *const u8,
+            stream_n: usize,
+            state: *mut u8,
+            state_n: usize,
+            allowance: usize,
+            place: *mut usize,
+            done: *mut usize,
+            found: *mut usize,
+            ended: *mut usize,
+        ) -> u32;
+        pub fn rov_translate(
+            w: usize,
+            h: usize,
+            stream: *const u8,
+            stream_n: usize,
+            room: *mut u8,
+            room_n: usize,
+            length: *mut usize,
+        ) -> u32;
+    }
+}
+
+/// What was found at a place of the stream. The item is taken and the run stopped behind it; it goes on if it is called again.
+#[derive(Clone, Copy, Debug, PartialEq, Eq)]
+pub enum Finding {
+    EndsInside = 1,
+    CannotStand = 2,
+    NotCarried = 3,
+    NotAllowed = 4,
+    StackLimit = 5,
+    NotNow = 6,
+    DamagedRow = 7,
+}
+
+/// Why a call was refused. Nothing was done, and nothing that was lent was written.
+#[derive(Clone, Copy, Debug, PartialEq, Eq)]
+pub enum Refusal {
+    PageMeasure = 10,
+    PageBuffer = 11,
+    StreamLength = 12,
+    UnsoundState = 13,
+    StartPlace = 14,
+    Room = 15,
+}
+
+/// A number of the library: it gives these and no others.
+fn told(number: u32) -> Result<Option<Finding>, Refusal> {
+    match number {
+        0 => Ok(None),
+        1 => Ok(Some(Finding::EndsInside)),
+        2 => Ok(Some(Finding::CannotStand)),
+        3 => Ok(Some(Finding::NotCarried)),
+        4 => Ok(Some(Finding::NotAllowed)),
+        5 => Ok(Some(Finding::StackLimit)),
+        6 => Ok(Some(Finding::NotNow)),
+        7 => Ok(Some(Finding::DamagedRow)),
+        10 => Err(Refusal::PageMeasure),
+        11 => Err(Refusal::PageBuffer),
+        12 => Err(Refusal::StreamLength),
+        13 => Err(Refusal::UnsoundState),
+        14 => Err(Refusal::StartPlace),
+        15 => Err(Refusal::Room),
+        _ => unreachable!("the library gives no other number"),
+    }
+}
+
+/// A page's width and height in dots. Those that are not allowed are refused by the calls.
+#[derive(Clone, Copy, Debug, PartialEq, Eq)]
+pub struct Measure {
+    pub wide: usize,
+    pub high: usize,
+}
+
+impl Measure {
+    /// The bytes of a page, H rows of W/8; a buffer may be longer, and is not touched behind them.
+    pub const fn page_bytes(self) -> usize {
+        (self.wide / 8).saturating_mul(self.high)
+    }
+
+    /// The dots set on a page; 0 where the measure is not allowed or the buffer is too short.
+    pub fn dots(self, page: &[u8]) -> usize {
+        unsafe { door::rov_dots(self.wide, self.high, page.as_ptr(), page.len()) }
+    }
+
+    /// The plain stream of a stream: the front of the room, which is not touched behind it.
+    pub fn translate<'a>(self, stream: &[u8], room: &'a mut [u8]) -> Result<&'a mut [u8], Refusal> {
+        let mut length = 0;
+        let number = unsafe {
+            door::rov_translate(
+                self.wide,
+                self.high,
+                stream.as_ptr(),
+                stream.len(),
+                room.as_mut_ptr(),
+                room.len(),
+                &mut length,
+            )
+        };
+        told(number).map(|_| &mut room[..length])
+    }
+}
+
+/// What a run tells that was carried out.
+#[derive(Clone, Copy, Debug, PartialEq, Eq)]
+pub struct Ran {
+    pub done: usize,
+    /// The finding that the run stopped behind, and the place where its item began.
+    pub finding: Option<(Finding, usize)>,
+    /// The page in the buffer is to be handed over, before the next run.
+    pub page_ended: bool,
+}
+
+/// A state between calls. It is its bytes: they may be stored and come back as they like, for a run refuses those that are no state.
+#[derive(Clone, Debug, PartialEq, Eq)]
+pub struct State(pub [u8; State::BYTES]);
+
+impl State {
+    pub const BYTES: usize = 808;
+
+    /// The state at a job's start.
+    pub fn afresh(page: Measure) -> Result<State, Refusal> {
+        let mut bytes = [0; State::BYTES];
+        let number =
+            unsafe { door::rov_afresh(page.wide, page.high, bytes.as_mut_ptr(), bytes.len()) };
+        told(number).map(|_| State(bytes))
+    }
+
+    pub fn is_sound(&self, page: Measure) -> bool {
+        unsafe { door::rov_sound(page.wide, page.high, self.0.as_ptr(), self.0.len()) }
+    }
+
+    /// At most `allowance` items of the stream, from `place` on; it is moved behind them.
+    pub fn run(
+        &mut self,
+        measure: Measure,
+        page: &mut [u8],
+        stream: &[u8],
+        place: &mut usize,
+        allowance: usize,
+    ) -> Result<Ran, Refusal> {
+        let (mut done, mut found, mut ended) = (0, 0, 0);
+        let number = unsafe {
+            door::rov_run(
+                measure.wide,
+                measure.high,
+                page.as_mut_ptr(),
+                page.len(),
+                stream.as_ptr(),
+                stream.len(),
+                self.0.as_mut_ptr(),
+                self.0.len(),
+                allowance,
+                place,
+                &mut done,
+                &mut found,
+                &mut ended,
+            )
+        };
+        told(number).map(|finding| Ran {
+            done,
+            finding: finding.map(|f| (f, found)),
+            page_ended: ended == 1,
+        })
+    }
+
+    pub fn x(&self) -> u32 {
+        u32::from_le_bytes(self.member(0))
+    }
+
+    pub fn y(&self) -> u32 {
+        u32::from_le_bytes(self.member(4))
+    }
+
+    /// Whether there is something on the page: if so, the page belongs to the state, and is to be kept with it.
+    pub fn page_used(&self) -> bool {
+        self.0[37] == 1
+    }
+
+    pub fn stack_depth(&self) -> u64 {
+        u64::from_le_bytes(self.member(40))
+    }
+
+    fn member<const N: usize>(&self, at: usize) -> [u8; N] {
+        core::array::from_fn(|i| self.0[at + i])
+    }
+}
