@@ -1,6 +1,7 @@
 #!/usr/bin/env bash
 # The library as firmware takes it: ./rovinuset archive and what it says, its link line, the header in C and in C++, and what
-# docs/DOOR.md says of the archive: what it references, and that it has no data. A line for each failed check, then the count.
+# docs/DOOR.md says of it: what the archive references, that it has no data, the names with their numbers, the stack. A line for each
+# failed check, then the count.
 set -eu
 cd "$(dirname "$0")/.."
 export LC_ALL=C
@@ -77,6 +78,18 @@ readelf -sW target/librovinuset.a | awk '$5 == "GLOBAL" && $7 != "UND" { print $
 check "it defines the five calls alone" diff - "$room/defined" < <(printf 'rov_afresh\nrov_dots\nrov_run\nrov_sound\nrov_translate\n')
 # Sections that are loaded and writable would be data of its own.
 check "it has no data" [ -z "$(readelf -SW target/librovinuset.a | grep ' WA')" ]
+
+# ---- its tables: each name of the header with its number or offset, and the stack
+names=0
+while read -r number name; do
+  names=$((names + 1))
+  check "docs/DOOR.md has no row for ROV_$name, $number" grep -qE "^\| $number \|( [0-9]+ \|)? \`$name\` \|" docs/DOOR.md
+done < <(sed -nE 's/^ *ROV_([A-Z_]+) = ([0-9]+).*/\2 \1/p' include/rovinuset.h)
+check "the header has 14 numbers and 18 offsets, not $names of both" [ "$names" -eq 32 ]
+read -r run translation < <(sed -nE 's/^\| stack \| ([0-9,]+) in a run, ([0-9,]+) in a translation,.*/\1 \2/p' docs/DOOR.md | tr -d ,)
+read -r run_used translation_used < <(bench/stack | sed -nE 's/.*the deepest.*\*\*([0-9]+)\*\*.*\*\*([0-9]+)\*\*.*/\1 \2/p')
+check "a run used $run_used bytes of stack, docs/DOOR.md says $run" [ "$run_used" -le "$run" ]
+check "a translation used $translation_used bytes of stack, docs/DOOR.md says $translation" [ "$translation_used" -le "$translation" ]
 
 echo "firmware: $checks checks, $failed failed"
 [ "$failed" -eq 0 ]

@@ -103,17 +103,8 @@ impl Measure {
     /// The plain stream of a stream: the front of the room, which is not touched behind it.
     pub fn translate<'a>(self, stream: &[u8], room: &'a mut [u8]) -> Result<&'a mut [u8], Refusal> {
         let mut length = 0;
-        let number = unsafe {
-            door::rov_translate(
-                self.wide,
-                self.high,
-                stream.as_ptr(),
-                stream.len(),
-                room.as_mut_ptr(),
-                room.len(),
-                &mut length,
-            )
-        };
+        let number =
+            unsafe { door::rov_translate(self.wide, self.high, stream.as_ptr(), stream.len(), room.as_mut_ptr(), room.len(), &mut length) };
         told(number).map(|_| &mut room[..length])
     }
 }
@@ -138,8 +129,7 @@ impl State {
     /// The state at a job's start.
     pub fn afresh(page: Measure) -> Result<State, Refusal> {
         let mut bytes = [0; State::BYTES];
-        let number =
-            unsafe { door::rov_afresh(page.wide, page.high, bytes.as_mut_ptr(), bytes.len()) };
+        let number = unsafe { door::rov_afresh(page.wide, page.high, bytes.as_mut_ptr(), bytes.len()) };
         told(number).map(|_| State(bytes))
     }
 
@@ -148,14 +138,7 @@ impl State {
     }
 
     /// At most `allowance` items of the stream, from `place` on; it is moved behind them.
-    pub fn run(
-        &mut self,
-        measure: Measure,
-        page: &mut [u8],
-        stream: &[u8],
-        place: &mut usize,
-        allowance: usize,
-    ) -> Result<Ran, Refusal> {
+    pub fn run(&mut self, measure: Measure, page: &mut [u8], stream: &[u8], place: &mut usize, allowance: usize) -> Result<Ran, Refusal> {
         let (mut done, mut found, mut ended) = (0, 0, 0);
         let number = unsafe {
             door::rov_run(
@@ -174,11 +157,7 @@ impl State {
                 &mut ended,
             )
         };
-        told(number).map(|finding| Ran {
-            done,
-            finding: finding.map(|f| (f, found)),
-            page_ended: ended == 1,
-        })
+        told(number).map(|finding| Ran { done, finding: finding.map(|f| (f, found)), page_ended: ended == 1 })
     }
 
     pub fn x(&self) -> u32 {

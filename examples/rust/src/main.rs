@@ -4,18 +4,37 @@
 //!     pieces JOB [W H [ITEMS]]     W and H are dots, 640 and 800 if not given; at most ITEMS items to a turn, 1000 if not given
 //!
 //! Exit status: 0 the job was read to its end; 1 a word or a file is wrong, or both runs differ; 2 the call was refused.
-use rovinuset::{Measure, Refusal, State};
+use rovinuset::{Finding, Measure, Refusal, State};
 use std::num::NonZeroUsize;
 use std::process::ExitCode;
 use std::{env, fs};
 
-/// What came out: findings with their places, pages with their bytes, the end.
-#[derive(PartialEq)]
+/// What came out so far: findings with their places, pages with their bytes. If `aloud`, each is printed as it comes.
+#[derive(Default)]
 struct Outcome {
-    findings: Vec<(usize, u32)>,
-    pages: Vec<Vec<u8>>,
+    aloud: bool,
+    turns: usize,
     items: usize,
-    end: State,
+    findings: Vec<(usize, Finding)>,
+    pages: Vec<Vec<u8>>,
+}
+
+impl Outcome {
+    /// `place` is where the item began that is at fault: what to say, log or send on is the controller's choice.
+    fn report(&mut self, place: usize, finding: Finding) {
+        self.findings.push((place, finding));
+        if self.aloud {
+            println!("place {place}: finding {}", finding as u32);
+        }
+    }
+
+    /// The page must be taken from the buffer now: the next turn that has an item to do zeroes it.
+    fn hand_over(&mut self, measure: Measure, page: &[u8]) {
+        self.pages.push(page.to_vec());
+        if self.aloud {
+            println!("page {}: {} dots", self.pages.len(), measure.dots(page));
+        }
+    }
 }
 
 /// A job between two turns: all of it is the caller's.
@@ -37,116 +56,68 @@ struct Kept {
 impl<'a> Engine<'a> {
     fn new(measure: Measure, job: &'a [u8]) -> Result<Self, Refusal> {
         let state = State::afresh(measure)?;
-        Ok(Engine {
-            measure,
-            job,
-            place: 0,
-            state,
-            page: vec![0; measure.page_bytes()],
-        })
+        let page = vec![0; measure.page_bytes()];
+        Ok(Engine { measure, job, place: 0, state, page })
+    }
+
+    /// A turn of at most so many items. Gives whether there may be more to do: a run that did fewer items than it might, with no finding
+    /// and no page end, has come to the job's end.
+    fn turn(&mut self, items: usize, out: &mut Outcome) -> Result<bool, Refusal> {
+        let ran = self.state.run(self.measure, &mut self.page, self.job, &mut self.place, items)?;
+        out.turns += 1;
+        out.items += ran.done;
+        if let Some((finding, place)) = ran.finding {
+            out.report(place, finding);
+        }
+        if ran.page_ended {
+            out.hand_over(self.measure, &self.page);
+        }
+        Ok(ran.finding.is_some() || ran.page_ended || ran.done == items)
     }
 
     fn lost(self) -> Kept {
-        Kept {
-            place: self.place,
-            page: self.state.page_used().then_some(self.page),
-            state: self.state.0,
-        }
+        let page = self.state.page_used().then_some(self.page);
+        Kept { place: self.place, state: self.state.0, page }
     }
 
     /// Nothing needs to be tested here: the next run refuses what is no state of this page or no place of this job.
     fn restored(measure: Measure, job: &'a [u8], kept: Kept) -> Self {
-        let page = kept
-            .page
-            .unwrap_or_else(|| vec![0xFF; measure.page_bytes()]);
-        Engine {
-            measure,
-            job,
-            place: kept.place,
-            state: State(kept.state),
-            page,
-        }
+        let page = kept.page.unwrap_or_else(|| vec![0xFF; measure.page_bytes()]);
+        Engine { measure, job, place: kept.place, state: State(kept.state), page }
     }
 }
 
-/// The job from its start, so many items to a turn; `aloud` prints what comes. Gives the number of turns with it.
-fn run_job(mut engine: Engine, items: usize, aloud: bool) -> Result<(Outcome, usize), Refusal> {
-    let (mut findings, mut pages, mut total) = (vec![], vec![], 0);
-    for turns in 1.. {
-        let ran = engine.state.run(
-            engine.measure,
-            &mut engine.page,
-            engine.job,
-            &mut engine.place,
-            items,
-        )?;
-        total += ran.done;
-        if let Some((finding, place)) = ran.finding {
-            findings.push((place, finding as u32));
-            if aloud {
-                println!("place {place}: finding {}", finding as u32);
-            }
-        }
-        // A run that did fewer items than it might, with no finding and no page end, has come to the job's end.
-        let over = ran.finding.is_none() && !ran.page_ended && ran.done < items;
-        if ran.page_ended || (over && engine.state.page_used()) {
-            pages.push(engine.page.clone());
-            if aloud {
-                println!(
-                    "page {}: {} dots",
-                    pages.len(),
-                    engine.measure.dots(&engine.page)
-                );
-            }
-        }
-        if over {
-            return Ok((
-                Outcome {
-                    findings,
-                    pages,
-                    items: total,
-                    end: engine.state,
-                },
-                turns,
-            ));
-        }
-        if aloud {
-            engine = Engine::restored(engine.measure, engine.job, engine.lost());
+/// The job from its start, so many items to a turn, with a power cut behind each turn or without. A job need not end its last page.
+fn run_job(measure: Measure, job: &[u8], items: usize, cuts: bool) -> Result<(Outcome, State), Refusal> {
+    let mut out = Outcome { aloud: cuts, ..Outcome::default() };
+    let mut engine = Engine::new(measure, job)?;
+    while engine.turn(items, &mut out)? {
+        if cuts {
+            engine = Engine::restored(measure, job, engine.lost());
         }
     }
-    unreachable!("turns have no end")
+    if engine.state.page_used() {
+        out.hand_over(measure, &engine.page);
+    }
+    Ok((out, engine.state))
 }
 
 fn both(measure: Measure, job: &[u8], items: usize) -> Result<bool, Refusal> {
-    let (pieces, turns) = run_job(Engine::new(measure, job)?, items, true)?;
-    println!(
-        "end: x {}, y {}, stack depth {}",
-        pieces.end.x(),
-        pieces.end.y(),
-        pieces.end.stack_depth()
-    );
-    let (once, _) = run_job(Engine::new(measure, job)?, usize::MAX, false)?;
-    let same = pieces == once;
-    let (items, findings, pages) = (pieces.items, pieces.findings.len(), pieces.pages.len());
-    println!(
-        "{items} items, {findings} findings, {pages} pages in {turns} turns: {}as in one go",
-        if same { "" } else { "NOT " }
-    );
+    let (pieces, end) = run_job(measure, job, items, true)?;
+    println!("end: x {}, y {}, stack depth {}", end.x(), end.y(), end.stack_depth());
+    let (once, end_once) = run_job(measure, job, usize::MAX, false)?;
+    let same = (pieces.items, &pieces.findings, &pieces.pages, end) == (once.items, &once.findings, &once.pages, end_once);
+    let (found, pages) = (pieces.findings.len(), pieces.pages.len());
+    let told = if same { "as in one go" } else { "NOT as in one go" };
+    println!("{} items, {found} findings, {pages} pages in {} turns: {told}", pieces.items, pieces.turns);
     Ok(same)
 }
 
 fn words() -> Option<(String, Measure, usize)> {
     let words: Vec<String> = env::args().skip(1).collect();
-    let number = |at: usize, otherwise: usize| {
-        words
-            .get(at)
-            .map_or(Some(otherwise), |word| word.parse().ok())
-    };
+    let number = |at: usize, otherwise: usize| words.get(at).map_or(Some(otherwise), |word| word.parse().ok());
     let items = NonZeroUsize::new(number(3, 1000)?)?;
-    let measure = Measure {
-        wide: number(1, 640)?,
-        high: number(2, 800)?,
-    };
+    let measure = Measure { wide: number(1, 640)?, high: number(2, 800)? };
     matches!(words.len(), 1 | 3 | 4).then(|| (words[0].clone(), measure, items.get()))
 }
 
