@@ -1,5 +1,6 @@
-/* The proved leaves against plain C, in one process: a line for each workload with the ratio of their times, and a check that
- * both did the same. Each workload is timed in turns, and the least time of each side counts. */
+/* The proved leaves against plain C, in one process: a line of docs/SPEED.md's table for each workload, with the ratio of their times and
+ * how each grows: the time of a row of 600 bytes, or of a page of 6,800 such rows, over eight times that of an eighth. Each workload is timed in
+ * turns, the least time of each side counts, and both must have done the same. */
 #include "../include/leaves.h"
 #include "plain.h"
 #include <stdio.h>
@@ -7,7 +8,7 @@
 #include <string.h>
 #include <time.h>
 
-enum { WIDE = 600, HIGH = 6800, PAGE = WIDE * HIGH, ROUNDS = 15 };
+enum { WIDE = 600, HIGH = 6800, PAGE = WIDE * HIGH, ROUNDS = 100, PARTS = 8 };
 
 static uint8_t proved_page[PAGE], plain_page[PAGE], payload[1 << 16], row[WIDE], seed[WIDE];
 static size_t payload_n;
@@ -15,13 +16,14 @@ static unsigned state = 1;
 
 static unsigned next_random(void) { return (state = state * 1664525u + 1013904223u) >> 8; }
 
+/* The processor's time of this process alone, as others may work beside it. */
 static double now(void) {
     struct timespec t;
-    clock_gettime(CLOCK_MONOTONIC, &t);
+    clock_gettime(CLOCK_PROCESS_CPUTIME_ID, &t);
     return (double)t.tv_sec + (double)t.tv_nsec * 1e-9;
 }
 
-/* ---- payloads of a row of 600 bytes, as a driver writes them */
+/* ---- payloads of a row, as a driver writes them */
 static void add(unsigned byte) { payload[payload_n++] = (uint8_t)byte; }
 
 static void fill_random(uint8_t *at, size_t n) {
@@ -29,16 +31,16 @@ static void fill_random(uint8_t *at, size_t n) {
 }
 
 /* kind 0: long runs, 1: literals, 2: mixed */
-static void make_payload(int method, int kind) {
+static void make_payload(int method, int kind, size_t wide) {
     size_t at = 0;
     payload_n = 0;
-    while (at < WIDE) {
-        size_t left = WIDE - at, run = kind == 0 ? 100 : kind == 1 ? 1 : 1 + next_random() % 12, literal = kind == 1 ? 100 : 1 + next_random() % 12;
+    while (at < wide) {
+        size_t left = wide - at, run = kind == 0 ? 100 : kind == 1 ? 1 : 1 + next_random() % 12, literal = kind == 1 ? 100 : 1 + next_random() % 12;
         if (run > left) run = left;
         if (literal > left) literal = left;
         if (method == 0) {
             for (size_t i = 0; i < left; i++) add(next_random());
-            at = WIDE;
+            at = wide;
         } else if (method == 1) {
             add((unsigned)run - 1);
             add(next_random());
@@ -65,88 +67,114 @@ static void make_payload(int method, int kind) {
     }
 }
 
-static void report(const char *name, double proved, double plain, int same) {
-    printf("%-28s %6.2f%s\n", name, proved / plain, same ? "" : "   DIFFERENT RESULTS");
-    if (!same) exit(1);
+/* ---- timing */
+struct times { double proved, plain; };
+
+static void lower(double *least, double t) {
+    if (*least == 0 || t < *least) *least = t;
 }
 
-static void rows_of(int method, int kind, const char *name) {
+static void line_of(const char *name, struct times whole, struct times part, int same) {
+    printf("| %s | %.2f | %.2f | %.2f |\n", name, whole.proved / whole.plain, whole.proved / (PARTS * part.proved), whole.plain / (PARTS * part.plain));
+    fflush(stdout);
+    if (same) return;
+    fprintf(stderr, "leaves: %s: DIFFERENT RESULTS\n", name);
+    exit(1);
+}
+
+static struct times decode_times(int method, int kind, size_t wide, int *same) {
     enum { TURNS = 4000 };
     static uint8_t a[WIDE], b[WIDE];
-    double proved = 1e9, plain = 1e9, t;
-    int same = 1;
-    make_payload(method, kind);
+    struct times least = {0, 0};
+    make_payload(method, kind, wide);
     for (int r = 0; r < ROUNDS; r++) {
         bool x = false;
         int y = 0;
+        double t;
         memcpy(a, seed, WIDE);
         memcpy(b, seed, WIDE);
         t = now();
-        for (int i = 0; i < TURNS; i++) x = rov_decode((uint8_t)method, payload, payload_n, a, WIDE);
-        t = now() - t;
-        if (t < proved) proved = t;
+        for (int i = 0; i < TURNS; i++) x = rov_decode((uint8_t)method, payload, payload_n, a, wide);
+        lower(&least.proved, now() - t);
         t = now();
-        for (int i = 0; i < TURNS; i++) y = plain_decode((uint8_t)method, payload, payload_n, b, WIDE);
-        t = now() - t;
-        if (t < plain) plain = t;
-        same = same && (int)x == y && x && memcmp(a, b, WIDE) == 0;
+        for (int i = 0; i < TURNS; i++) y = plain_decode((uint8_t)method, payload, payload_n, b, wide);
+        lower(&least.plain, now() - t);
+        *same = *same && (int)x == y && x && memcmp(a, b, WIDE) == 0;
     }
-    report(name, proved, plain, same);
+    return least;
+}
+
+static void rows_of(int method, int kind, const char *name) {
+    int same = 1;
+    struct times whole = decode_times(method, kind, WIDE, &same), part = decode_times(method, kind, WIDE / PARTS, &same);
+    line_of(name, whole, part, same);
+}
+
+static struct times paint_times(size_t dots, size_t from, size_t wide) {
+    enum { LINES = 400 };
+    struct times least = {0, 0};
+    for (int r = 0; r < ROUNDS; r++) {
+        double t = now();
+        for (size_t y = 0; y < LINES; y++) rov_paint(proved_page, wide * HIGH, wide, row, wide, dots, from, y * dots);
+        lower(&least.proved, now() - t);
+        t = now();
+        for (size_t y = 0; y < LINES; y++) plain_paint(plain_page, wide * HIGH, wide, row, wide, dots, from, y * dots);
+        lower(&least.plain, now() - t);
+    }
+    return least;
 }
 
 static void paint_of(size_t dots, size_t from, const char *name) {
-    double proved = 1e9, plain = 1e9, t;
-    size_t lines = 400;
+    struct times whole = paint_times(dots, from, WIDE), part = paint_times(dots, from, WIDE / PARTS);
+    line_of(name, whole, part, memcmp(proved_page, plain_page, PAGE) == 0);
+}
+
+static struct times count_times(size_t n, int *same) {
+    struct times least = {0, 0};
     for (int r = 0; r < ROUNDS; r++) {
+        size_t a, b;
+        double t = now();
+        a = rov_count(proved_page, n);
+        lower(&least.proved, now() - t);
         t = now();
-        for (size_t y = 0; y < lines; y++) rov_paint(proved_page, PAGE, WIDE, row, WIDE, dots, from, y * dots);
-        t = now() - t;
-        if (t < proved) proved = t;
-        t = now();
-        for (size_t y = 0; y < lines; y++) plain_paint(plain_page, PAGE, WIDE, row, WIDE, dots, from, y * dots);
-        t = now() - t;
-        if (t < plain) plain = t;
+        b = plain_count(plain_page, n);
+        lower(&least.plain, now() - t);
+        *same = *same && a == b;
     }
-    report(name, proved, plain, memcmp(proved_page, plain_page, PAGE) == 0);
+    return least;
 }
 
 static void count_of(void) {
-    double proved = 1e9, plain = 1e9, t;
-    size_t a = 0, b = 0;
+    int same = 1;
+    struct times whole = count_times(PAGE, &same), part = count_times(PAGE / PARTS, &same);
+    line_of("count of a page's dots", whole, part, same);
+}
+
+static struct times clear_times(size_t n) {
+    struct times least = {0, 0};
     for (int r = 0; r < ROUNDS; r++) {
+        double t;
+        memset(proved_page, r, PAGE);
         t = now();
-        a = rov_count(proved_page, PAGE);
-        t = now() - t;
-        if (t < proved) proved = t;
+        rov_clear(proved_page, PAGE, n);
+        lower(&least.proved, now() - t);
+        memset(plain_page, r, PAGE);
         t = now();
-        b = plain_count(plain_page, PAGE);
-        t = now() - t;
-        if (t < plain) plain = t;
+        memset(plain_page, 0, n);
+        lower(&least.plain, now() - t);
     }
-    report("count of a page's dots", proved, plain, a == b);
+    return least;
 }
 
 static void clear_of(void) {
-    double proved = 1e9, plain = 1e9, t;
-    for (int r = 0; r < ROUNDS; r++) {
-        memset(proved_page, r, PAGE);
-        t = now();
-        rov_clear(proved_page, PAGE, PAGE);
-        t = now() - t;
-        if (t < proved) proved = t;
-        memset(plain_page, r, PAGE);
-        t = now();
-        memset(plain_page, 0, PAGE);
-        t = now() - t;
-        if (t < plain) plain = t;
-    }
-    report("clear a page", proved, plain, memcmp(proved_page, plain_page, PAGE) == 0);
+    struct times whole = clear_times(PAGE), part = clear_times(PAGE / PARTS);
+    line_of("clear a page", whole, part, memcmp(proved_page, plain_page, PAGE) == 0);
 }
 
 int main(void) {
     fill_random(seed, WIDE);
     fill_random(row, WIDE);
-    puts("workload                     ratio of times, proved to plain C");
+    puts("| Workload | Ratio | Growth, proved | Growth, plain C |\n|---|---|---|---|");
     rows_of(0, 2, "row, method 0");
     rows_of(1, 0, "row, method 1, long runs");
     rows_of(1, 1, "row, method 1, runs of 1");

@@ -1,5 +1,5 @@
 /* The stack that one rov_run and one rov_translate use: each stream is run, and translated, on a stack filled with a pattern, and the lowest
- * word that was changed tells how deep the call went. Prints both depths for each kind of item and the deepest, in bytes. The call's own
+ * word that was changed tells how deep the call went. Prints a table of both depths for each kind of item and the deepest, in bytes. The call's own
  * arguments and return address are counted; what an empty function needs on the same stack is not. */
 #include "side.h"
 #include <stdio.h>
@@ -109,13 +109,14 @@ static struct depths measured(const struct kind *k) {
     must(stopped == k->finding && (items > 0) == (stream_n > 0 && stopped < 10), k->name);
     d.translation = depth_of(translation) - none;
     must(code == (room_n ? 0 : 15), k->name);
-    printf("%-34s %6zu %6zu\n", k->name, d.run, d.translation);
+    printf("| %s | %zu | %zu |\n", k->name, d.run, d.translation);
     return d;
 }
 
 int main(void) {
     static const struct kind refused = {"a page or a room that is too short", S("a"), 11};
     struct depths deepest = {0, 0}, d;
+    puts("| Item | Run | Translation |\n|---|---|---|");
     for (size_t i = 0; i <= sizeof kinds / sizeof kinds[0]; i++) {
         int last = i == sizeof kinds / sizeof kinds[0];
         if (last) page_n = room_n = 0;
@@ -123,6 +124,6 @@ int main(void) {
         if (d.run > deepest.run) deepest.run = d.run;
         if (d.translation > deepest.translation) deepest.translation = d.translation;
     }
-    printf("stack: the deepest run used %zu bytes, the deepest translation %zu\n", deepest.run, deepest.translation);
+    printf("| **the deepest** | **%zu** | **%zu** |\n", deepest.run, deepest.translation);
     return 0;
 }

@@ -1,4 +1,4 @@
-/* What door.c and translate.c share: a stream of 1 MB in a file, and the least of many times. */
+/* What door.c, translate.c and turns.c share: a stream of 1 MB in a file, and the least of many times. */
 #ifndef TIMED_H
 #define TIMED_H
 #include <stdint.h>
@@ -18,7 +18,7 @@ static double now(void) {
     return (double)t.tv_sec + (double)t.tv_nsec * 1e-9;
 }
 
-static int more_turns(int done, double began) { return done < TURNS || now() - began < LONG_ENOUGH; }
+static inline int more_turns(int done, double began) { return done < TURNS || now() - began < LONG_ENOUGH; }
 
 static void lower(double *least, double t) {
     if (*least == 0 || t < *least) *least = t;
