@@ -17,19 +17,19 @@ static uint8_t state[ROV_STATE];
 /* What rov_run gives, in words. */
 static const char *meaning(uint32_t code) {
     switch (code) {
-    case 0: return "nothing found";
-    case 1: return "the stream ends inside a sequence, or payload is short";
-    case 2: return "a byte that can't stand there";
-    case 3: return "command not carried";
-    case 4: return "value not allowed";
-    case 5: return "push when full, or pop when empty";
-    case 6: return "not allowed at this moment";
-    case 7: return "damaged row: it is drawn as a row of zeros";
-    case 10: return "page measure not allowed";
-    case 11: return "page buffer shorter than the page";
-    case 12: return "job longer than 1,048,576 bytes";
-    case 13: return "the state is not sound on this page";
-    case 14: return "start place after the end of the job";
+    case ROV_NOTHING: return "nothing found";
+    case ROV_ENDS_INSIDE: return "the stream ends inside a sequence, or payload is short";
+    case ROV_CANNOT_STAND: return "a byte that can't stand there";
+    case ROV_NOT_CARRIED: return "command not carried";
+    case ROV_NOT_ALLOWED: return "value not allowed";
+    case ROV_STACK_LIMIT: return "push when full, or pop when empty";
+    case ROV_NOT_NOW: return "not allowed at this moment";
+    case ROV_DAMAGED_ROW: return "damaged row: it is drawn as a row of zeros";
+    case ROV_PAGE_MEASURE: return "page measure not allowed";
+    case ROV_PAGE_BUFFER: return "page buffer shorter than the page";
+    case ROV_STREAM_LENGTH: return "job longer than 1,048,576 bytes";
+    case ROV_UNSOUND_STATE: return "the state is not sound on this page";
+    case ROV_START_PLACE: return "start place after the end of the job";
     default: return "a number this program does not know";
     }
 }
@@ -78,7 +78,7 @@ static int run_job(size_t n, size_t W, size_t H, const char *picture) {
     if (code) return refused(code);
     do {
         code = rov_run(W, H, page, sizeof page, job, n, state, sizeof state, ITEMS_AT_ONCE, &place, &done, &found, &ended);
-        if (code >= 10) return refused(code); /* nothing was done: page, state and place are as they were */
+        if (code >= ROV_PAGE_MEASURE) return refused(code); /* nothing was done: page, state and place are as they were */
         if (code) printf("place %zu: finding %u, %s\n", found, (unsigned)code, meaning(code)); /* `found` is where the item began */
         if (ended && !hand_over(++pages, picture, W, H)) return 1;
         /* A run stops early after a finding, a page end, or at the end of the job; only then is there nothing left. */

@@ -1,4 +1,4 @@
-//! Rovinuset for Rust: include/rovinuset.h as safe functions. docs/DOOR.md has the tables.
+//! Rovinuset for Rust: include/rovinuset.h as safe functions. docs/DOOR.md has the tables. To use it elsewhere, take this file and build.rs.
 //!
 //! Nothing is tested here that the library tests: any measure, any bytes, any place and any allowance may be handed in, and what cannot
 //! be carried out comes back as a `Refusal`. What C leaves to its caller is left to the language: a slice has the bytes it says it has, and what is
