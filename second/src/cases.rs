@@ -193,8 +193,9 @@ pub fn hexadecimal(text: &str) -> Option<Vec<u8>> {
     }
     let mut bytes = Vec::with_capacity(text.len() / 2);
     for pair in text.as_bytes().chunks_exact(2) {
-        let &[high, low] = pair else {
-            return None;
+        let (high, low) = match pair {
+            &[high, low] => (high, low),
+            _ => return None,
         };
         bytes.push(digit(high)? << 4 | digit(low)?);
     }
@@ -241,8 +242,11 @@ fn parse_stream(text: &str) -> Option<Vec<u8>> {
     if text == "-" {
         return Some(Vec::new());
     }
-    let Some(repeated) = text.strip_prefix('x') else {
-        return hexadecimal(text);
+    let repeated = match text.strip_prefix('x') {
+        Some(found) => found,
+        None => {
+            return hexadecimal(text);
+        }
     };
     let (length, bytes) = repeated.split_once(':')?;
     let length = decimal(length)?;
@@ -261,11 +265,9 @@ fn parse_state(text: &str, width: u64, height: u64) -> Option<State> {
         return Some(State::afresh(&measure));
     }
     let members: Vec<&str> = text.split(',').collect();
+    let members: &[&str; 17] = members.as_slice().try_into().ok()?;
     let [x, y, left, right, top, hmi, vmi, termination, resolution, method, started, margin, used, depth, sequence, stack, seed] =
-        members.as_slice()
-    else {
-        return None;
-    };
+        members;
     Some(State {
         x: decimal_32(x)?,
         y: decimal_32(y)?,

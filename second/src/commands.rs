@@ -332,8 +332,11 @@ fn do_command(
     sequence: &Sequence,
     payload: &[u8],
 ) -> Result<Effect, Finding> {
-    let Some(command) = Command::named(sequence.first, sequence.group, sequence.ending) else {
-        return Err(Finding::NotCarried);
+    let command = match Command::named(sequence.first, sequence.group, sequence.ending) {
+        Some(found) => found,
+        None => {
+            return Err(Finding::NotCarried);
+        }
     };
     let value = &sequence.value;
     match command {

@@ -32,8 +32,11 @@ pub fn paint_row(
 /// number of bytes, so what falls beyond the last byte is what is clipped.
 fn widened_line(row_bytes: usize, row: &[u8], left: usize, size: usize) -> Vec<u8> {
     let mut line = vec![0u8; row_bytes];
-    let Some(widened) = WIDENED.get(size) else {
-        return line;
+    let widened = match WIDENED.get(size) {
+        Some(found) => found,
+        None => {
+            return line;
+        }
     };
     let shift = left % 8;
     let mut cells = line.iter_mut().skip(left / 8);
@@ -42,8 +45,11 @@ fn widened_line(row_bytes: usize, row: &[u8], left: usize, size: usize) -> Vec<u
     for &byte in row {
         bits = bits << (8 * size) | widened[usize::from(byte)];
         for part in (0..size).rev() {
-            let Some(cell) = cells.next() else {
-                return line;
+            let cell = match cells.next() {
+                Some(found) => found,
+                None => {
+                    return line;
+                }
             };
             *cell = (bits >> (8 * part + shift)) as u8;
         }

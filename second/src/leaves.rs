@@ -130,9 +130,12 @@ fn answer_value(at: usize, stream: &[u8]) -> String {
 // ---- I: an item
 
 fn answer_item(open: Option<OpenSequence>, at: usize, stream: &[u8]) -> String {
-    let Some(item) = read_item(stream, at, open) else {
-        // The stream's end, and no sequence is open: there is no item.
-        return format!("4 {at} 0 0 1");
+    let item = match read_item(stream, at, open) {
+        Some(found) => found,
+        None => {
+            // The stream's end, and no sequence is open: there is no item.
+            return format!("4 {at} 0 0 1");
+        }
     };
     let next = item.end();
     let (first, group) = item

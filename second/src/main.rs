@@ -63,8 +63,11 @@ fn refuse(refusal: Refusal, goes_to: RefusalGoesTo) -> ExitCode {
 }
 
 fn command(words: &[OsString]) -> Result<(), Failure> {
-    let Some((word, rest)) = words.split_first() else {
-        return Err(Failure::Fault(format!("a word is missing; {USAGE}")));
+    let (word, rest) = match words.split_first() {
+        Some(found) => found,
+        None => {
+            return Err(Failure::Fault(format!("a word is missing; {USAGE}")));
+        }
     };
     match (word.to_str(), rest) {
         (Some("report"), []) => report(),

@@ -69,8 +69,11 @@ fn write_item(plain: &mut Vec<u8>, stream: &[u8], item: &Item, row: &[u8]) {
 }
 
 fn write_command(plain: &mut Vec<u8>, sequence: &Sequence, payload: &[u8], row: &[u8]) {
-    let Some(command) = Command::named(sequence.first, sequence.group, sequence.ending) else {
-        return;
+    let command = match Command::named(sequence.first, sequence.group, sequence.ending) {
+        Some(found) => found,
+        None => {
+            return;
+        }
     };
     let value = &sequence.value;
     let (text, data) = match command {

@@ -46,8 +46,9 @@ fn run_length(payload: &[u8], row: &mut [u8]) -> Result<(), Damaged> {
     }
     let mut place = 0;
     for pair in pairs {
-        let &[count, byte] = pair else {
-            return Err(Damaged);
+        let (count, byte) = match pair {
+            &[count, byte] => (count, byte),
+            _ => return Err(Damaged),
         };
         place = repeat(row, place, byte, usize::from(count) + 1);
     }

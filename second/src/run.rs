@@ -61,8 +61,11 @@ pub fn run(
     let (measure, mut at) = admit(width, height, sheet.length(), stream, state, *place)?;
     let mut ran = Ran::default();
     while ran.done < allowance {
-        let Some(item) = read_item(stream, at, state.open) else {
-            break;
+        let item = match read_item(stream, at, state.open) {
+            Some(found) => found,
+            None => {
+                break;
+            }
         };
         if ran.done == 0 && !state.used {
             // "With the page unused and an item to do, a run zeroes the page
