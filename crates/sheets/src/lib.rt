@@ -119,13 +119,15 @@ pub fn next(
     let o = run::run(page, w, h, s, t, place, ALLOWANCE);
     let end = write_lines(o, number, findings, page, room);
     let drawn = is_drawn(o);
+    let next_number = number + one_if(o.ended);
     let f = o.finding;
+    let all_findings = findings + count_of(f);
     let state = o.state;
     Sheet {
         state,
         place: o.place,
-        number: number + one_if(o.ended),
-        findings: findings + count_of(f),
+        number: next_number,
+        findings: all_findings,
         end,
         drawn,
         over: o.done == 0,

@@ -16,14 +16,14 @@ is-drawn-requires c κs = search needs
 one-if-requires : tie.Need-one-if-requires
 one-if-requires c κs = search needs
 
-add-t22 : tie.Need-add-t22
-add-t22 c = search needs
+add-next-number : tie.Need-add-next-number
+add-next-number c = search needs
 
 count-of-requires : tie.Need-count-of-requires
 count-of-requires c κs = search needs
 
-add-t24 : tie.Need-add-t24
-add-t24 c = search needs
+add-all-findings : tie.Need-add-all-findings
+add-all-findings c = search needs
 
 same-length : tie.Need-same-length
 same-length c = search needs
@@ -42,9 +42,9 @@ next-spec =
     write-lines-requires
     is-drawn-requires
     one-if-requires
-    add-t22
+    add-next-number
     count-of-requires
-    add-t24
+    add-all-findings
     same-length
     same-length-2
     returns)
