@@ -1,4 +1,4 @@
-// The plain stream of standard input on standard output, or one line for a refusal on standard error.
+// The plain stream of standard input on standard output, or one line on standard error: for a refusal, or UNWRITTEN where a write fails.
 // The page measure is given by two words; without them it is 640 by 800. One byte more than the limit is read, so that a longer
 // input is seen to be longer. The room is that of the longest plain stream, so 15 is said only of a longer one.
 use libc::STDERR_FILENO;
@@ -25,6 +25,14 @@ fn measure_word(i: usize, otherwise: usize) -> usize {
     words::measure_of_word(&word[..n])
 }
 
+// What is said of a stream, a refusal on standard error; whether it was written.
+fn write_said(refused: bool, text: &[u8]) -> bool {
+    if refused {
+        return io::write_all(STDERR_FILENO, text);
+    }
+    io::write_all(STDOUT_FILENO, text)
+}
+
 fn main() {
     let w = measure_word(1, 640);
     let h = measure_word(2, 800);
@@ -33,9 +41,7 @@ fn main() {
     let mut room = longest_room();
     let said = saying::say_plain(w, h, &input[..n], &mut room);
     let end = said.end;
-    if said.refused {
-        io::write_all(STDERR_FILENO, &room[..end]);
-    } else {
-        io::write_all(STDOUT_FILENO, &room[..end]);
+    if !write_said(said.refused, &room[..end]) {
+        io::write_all(STDERR_FILENO, b"UNWRITTEN\n");
     }
 }

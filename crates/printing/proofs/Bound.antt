@@ -45,12 +45,12 @@ unfolding decimal
 few-digits k n h = omega (arith, upto-few 20 k n [] h)
 
 -- a number in front of s
-number-length : (n : ℕ) (s : List ℕ) → length (decimal n s) ≡ length (decimal n []) + length s
+pub number-length : (n : ℕ) (s : List ℕ) → length (decimal n s) ≡ length (decimal n []) + length s
 number-length n s = ap length (decimal-append n [] s) ∙ length-append (decimal n []) s
 
 -- ---- lines
 -- two numbers, with LF behind them
-two-length : (a b : ℕ) (s : List ℕ) → length (fields (a ∷ b ∷ []) s) ≡ length (decimal a []) + length (decimal b []) + 3 + length s
+pub two-length : (a b : ℕ) (s : List ℕ) → length (fields (a ∷ b ∷ []) s) ≡ length (decimal a []) + length (decimal b []) + 3 + length s
 unfolding fields
 two-length a b s =
     let p = number-length a (9 ∷ decimal b (10 ∷ s)) in
@@ -91,20 +91,25 @@ fault-within at f s top h k = omega (arith, fault-length at f s h)
 page-within : (number dots : ℕ) (s : List ℕ) (top : ℕ) → number ≤ 131073 → length s + 33 ≤ top → length (line PAGE (number ∷ dots ∷ []) s) ≤ top
 page-within number dots s top h k = omega (arith, page-length number dots s h)
 
+-- END and its four numbers
+pub end-length : (x y d n : ℕ) → length (line END (x ∷ y ∷ d ∷ n ∷ []) []) ≤ 88
+unfolding fields
+end-length x y d n =
+    let a = number-length x (9 ∷ decimal y (9 ∷ decimal d (9 ∷ decimal n (10 ∷ [])))) in
+    let b = number-length y (9 ∷ decimal d (9 ∷ decimal n (10 ∷ []))) in
+    let c = number-length d (9 ∷ decimal n (10 ∷ [])) in
+    let e = number-length n (10 ∷ []) in
+    let i = decimal-short x in
+    let j = decimal-short y in
+    let k = decimal-short d in
+    let l = decimal-short n in
+    omega arith
+
 -- the last page and END
 last-length : (number : ℕ) (w : World) (n : ℕ) → number ≤ 131073 → length (lastLines number w n) ≤ 121
-unfolding fields
 last-length number w n h =
     let end : List ℕ = line END (w .core .at .x ∷ w .core .at .y ∷ w .core .depth ∷ n ∷ []) [] in
-    let a = number-length (w .core .at .x) (9 ∷ decimal (w .core .at .y) (9 ∷ decimal (w .core .depth) (9 ∷ decimal n (10 ∷ [])))) in
-    let b = number-length (w .core .at .y) (9 ∷ decimal (w .core .depth) (9 ∷ decimal n (10 ∷ []))) in
-    let c = number-length (w .core .depth) (9 ∷ decimal n (10 ∷ [])) in
-    let d = number-length n (10 ∷ []) in
-    let i = decimal-short (w .core .at .x) in
-    let j = decimal-short (w .core .at .y) in
-    let k = decimal-short (w .core .depth) in
-    let l = decimal-short n in
-    let e : length end ≤ 88 = omega arith in
+    let e : length end ≤ 88 = end-length (w .core .at .x) (w .core .at .y) (w .core .depth) n in
     choice (λ (r : List ℕ). length r ≤ 121) (w .core .used) (omega (arith, page-length number (onesAll (w .page)) end h)) (omega arith)
 
 -- ---- items

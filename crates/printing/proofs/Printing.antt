@@ -38,7 +38,7 @@ fault-place at f s = go (isClean f)
 
 module _ (g : Measure) where
   -- a page that is blank where it is not used is the page that is being drawn
-  drawn-is : (t : State) (p : List ℕ) → Blank g (world (t .core) p []) → p ≡ drawn g t p
+  pub drawn-is : (t : State) (p : List ℕ) → Blank g (world (t .core) p []) → p ≡ drawn g t p
   drawn-is t p h = choice-by (λ q. p ≡ q) (t .core .used) (λ e. refl) h
 
   module _ (stream : List ℕ) where
@@ -141,18 +141,23 @@ module _ (g : Measure) where
         (there t s at done number p n here low b e) (there-low t s at done number p n here low b e) (still-blank t s at done number p n here low b e)))
 
     module _ (k : ℕ) (t : State) (at : ℕ) (buffer : List ℕ) where
-      -- a run with items to do, on a buffer that holds anything where the page is unused
-      pub run-prints : (number n : ℕ) → at ≤ length stream → over t (drop at stream) ≡ false
-          → Prints t (drop at stream) at 0 number (drawn g t buffer) n (run g (suc k) t at buffer stream)
+      -- a run with items to do begins with the page that is being drawn, whatever the buffer holds
+      pub run-readied : over t (drop at stream) ≡ false → run g (suc k) t at buffer stream ≡ runFrom g (suc k) 0 at t (drawn g t buffer) (drop at stream)
       unfolding run
-      run-prints number n low e = rw (e, eqb·suc-zero k, ready (t .core .used)) (prints (suc k) t (drop at stream) at 0 number (drawn g t buffer) n refl low blank-or)
+      run-readied e = rw (e, eqb·suc-zero k, ready (t .core .used))
         where
           ready : (u : Bool) → cond (u || false || false) buffer (blank g) ≡ cond u buffer (blank g)
           ready true = refl
           ready false = refl
 
-          blank-or : Blank g (world (t .core) (drawn g t buffer) [])
-          blank-or u = rw u
+      -- which is blank where it is unused
+      pub drawn-blank : Blank g (world (t .core) (drawn g t buffer) [])
+      drawn-blank u = rw u
+
+      -- it prints what is its to print
+      pub run-prints : (number n : ℕ) → at ≤ length stream → over t (drop at stream) ≡ false
+          → Prints t (drop at stream) at 0 number (drawn g t buffer) n (run g (suc k) t at buffer stream)
+      run-prints number n low e = rw (run-readied e) (prints (suc k) t (drop at stream) at 0 number (drawn g t buffer) n refl low drawn-blank)
 
       -- a run with nothing to do leaves all as it is
       pub run-over : over t (drop at stream) ≡ true → run g (suc k) t at buffer stream ≡ halted t at 0 buffer

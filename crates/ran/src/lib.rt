@@ -35,7 +35,7 @@ pub fn count_of(f: Finding) -> usize
 
 // What a run found: the line of its finding, and the line of the page that it ended.
 pub fn write_ran(o: Ran, number: usize, page: &[u8], room: &mut [u8], at: usize) -> usize
-    requires { ⌜ length (now page) ≡ 64000 ⌝ }
+    requires { ⌜ length (now page) ≤ 4294967296 ⌝ }
     ensures { λ r. ⌜ Wrote (now (room .entry)) at (printed number o (now (page .entry)) []) (now (room .exit)) r ⌝ }
 {
     let f = o.finding;

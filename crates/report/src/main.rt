@@ -1,6 +1,7 @@
-// The report of standard input on standard output.
+// The report of standard input on standard output, or UNWRITTEN on standard error where it cannot be written.
 // One byte more than the limit is read, so that a longer input is seen to be longer. The room is that of the longest report, so by
 // the contract of `write_report` what is written is the whole report of what was read.
+use libc::STDERR_FILENO;
 use libc::STDIN_FILENO;
 use libc::STDOUT_FILENO;
 ghost use mathlib.Core.Path.{_≡_};
@@ -19,5 +20,7 @@ fn main() {
     let n = io::read_full(STDIN_FILENO, &mut input);
     let mut room = longest_room();
     let end = reporter::write_report(&input[..n], &mut room);
-    io::write_all(STDOUT_FILENO, &room[..end]);
+    if !io::write_all(STDOUT_FILENO, &room[..end]) {
+        io::write_all(STDERR_FILENO, b"UNWRITTEN\n");
+    }
 }

@@ -37,20 +37,17 @@ say-plain-requires c κs = search needs
 array-share-prefix-room : tie.Need-array-share-prefix-room
 array-share-prefix-room c = search needs
 
+slice-aggregate-write-said : tie.Need-slice-aggregate-write-said
+slice-aggregate-write-said c = simp length-take (search needs)
+
+write-said-requires : tie.Need-write-said-requires
+write-said-requires c κs = search needs
+
 slice-aggregate-write-all : tie.Need-slice-aggregate-write-all
-slice-aggregate-write-all c = simp length-take (search needs)
+slice-aggregate-write-all c = search needs
 
 write-all-requires : tie.Need-write-all-requires
 write-all-requires c κs = search needs
-
-array-share-prefix-room-2 : tie.Need-array-share-prefix-room-2
-array-share-prefix-room-2 c = search needs
-
-slice-aggregate-write-all-2 : tie.Need-slice-aggregate-write-all-2
-slice-aggregate-write-all-2 c = simp length-take (search needs)
-
-write-all-requires-2 : tie.Need-write-all-requires-2
-write-all-requires-2 c κs = search needs
 
 returns : tie.Need-returns
 returns c = search needs
@@ -73,10 +70,9 @@ main-spec =
     slice-aggregate-say-plain-2
     say-plain-requires
     array-share-prefix-room
+    slice-aggregate-write-said
+    write-said-requires
     slice-aggregate-write-all
     write-all-requires
-    array-share-prefix-room-2
-    slice-aggregate-write-all-2
-    write-all-requires-2
     returns
     returns-2)

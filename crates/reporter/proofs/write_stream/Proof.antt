@@ -31,7 +31,7 @@ write-last-requires c κs = search needs
 same-length : tie.Need-same-length Inv-loop μ-loop
 same-length c =
     let call = c .before .before .before .before .before .before .before .before .before .before .before in
-    omega (arith, call .before .before .before .before .before .before .before .pre .1, call .run .kept .0, call .before .before .loop .inv .sized)
+    omega (arith, call .before .before .before .before .before .before .before .pre .1, call .run .kept .0, call .before .before .loop .inv .going .sized)
 
 same-length-2 : tie.Need-same-length-2 Inv-loop μ-loop
 same-length-2 c = search needs
@@ -50,7 +50,7 @@ one-if-requires c κs = search needs
 add-number : tie.Need-add-number Inv-loop μ-loop
 add-number c =
     let call = c .before .before .before .before .before .before .before .before .before .before .before in
-    omega (arith, call .before .before .loop .inv .pages, call .before .before .before .before .before .before .before .pre .0, c .one-if .ensures .1)
+    omega (arith, call .before .before .loop .inv .going .pages, call .before .before .before .before .before .before .before .pre .0, c .one-if .ensures .1)
 
 count-of-requires : tie.Need-count-of-requires Inv-loop μ-loop
 count-of-requires c κs = search needs
@@ -58,7 +58,7 @@ count-of-requires c κs = search needs
 add-findings : tie.Need-add-findings Inv-loop μ-loop
 add-findings c =
     let call = c .before .before .before .before .before .before .before .before .before .before .before .before in
-    omega (arith, call .before .before .loop .inv .found, call .before .before .before .before .before .before .before .pre .0, c .count-of .ensures .1)
+    omega (arith, call .before .before .loop .inv .going .found, call .before .before .before .before .before .before .before .pre .0, c .count-of .ensures .1)
 
 loop-less : tie.Need-loop-less Inv-loop μ-loop
 loop-less c =

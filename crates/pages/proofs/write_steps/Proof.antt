@@ -1,0 +1,112 @@
+-- `pages::write_steps` is safe and ends. The invariant: the next step may follow; the measure: what is left to read.
+-- The facts are named by their places, since a search does not reach through so many. Assumes nothing.
+use borrow.Author.Needs.{needs}
+use Rattle.pages.proofs.write_steps.Statement.{statement}
+use Rattle.pages.proofs.write_steps.Tie as tie
+use lib.ListN.{drop, length-take}
+use native.Mathlib.Omega.{arith}
+use Rattle.theorems.proofs.Reading.{left}
+use Rattle.sheets.proofs.Stepping.{Stepping, stepping-start, stepping-small, stepping-less, stepping-again}
+
+abbrev Inv-loop : tie.InvT-loop
+Inv-loop page₀ w h s head room₀ state₀ place₀ number₀ findings₀ page room state place number findings =
+    Stepping w h s page room₀ room state place number findings
+
+abbrev μ-loop : tie.MeasureT-loop
+μ-loop page₀ w h s head room₀ state₀ place₀ number₀ findings₀ page room state place number findings =
+    left (state .sequence) (drop place s)
+
+first-state-requires : tie.Need-first-state-requires Inv-loop μ-loop
+first-state-requires c κs = search needs
+
+loop-holds : tie.Need-loop-holds Inv-loop μ-loop
+loop-holds c = search (stepping-start, needs)
+
+next-requires : tie.Need-next-requires Inv-loop μ-loop
+next-requires c κs = stepping-small (c .before .before .loop .inv) (c .before .before .before .before .before .before .before .before .pre .0) (c .before .before .before .before .before .before .before .before .pre .1 .1 .0)
+
+write-page-requires : tie.Need-write-page-requires Inv-loop μ-loop
+write-page-requires c κs = search needs
+
+same-length : tie.Need-same-length Inv-loop μ-loop
+same-length c =
+    let made = c .before .before .before .before .before .before .before in
+    omega (arith, made .before .before .before .before .before .before .before .before .before .pre .1 .0, made .next .kept .0, made .before .before .before .loop .inv .going .sized)
+
+same-length-2 : tie.Need-same-length-2 Inv-loop μ-loop
+same-length-2 c =
+    let made = c .before .before .before .before .before .before .before in
+    omega (arith, made .next .kept .1 .1 .1 .1 .1 .1 .1 .1 .0, made .before .before .before .loop .inv .kept)
+
+returns : tie.Need-returns Inv-loop μ-loop
+returns c = search needs
+
+slice-reshare-prefix-write-all : tie.Need-slice-reshare-prefix-write-all Inv-loop μ-loop
+slice-reshare-prefix-write-all c = search needs
+
+slice-aggregate-write-all : tie.Need-slice-aggregate-write-all Inv-loop μ-loop
+slice-aggregate-write-all c = simp length-take (search needs)
+
+write-all-requires : tie.Need-write-all-requires Inv-loop μ-loop
+write-all-requires c κs = search needs
+
+same-length-3 : tie.Need-same-length-3 Inv-loop μ-loop
+same-length-3 c =
+    let made = c .before .before .before .before .before .before .before .before .before .before in
+    omega (arith, made .before .before .before .before .before .before .before .before .before .pre .1 .0, made .next .kept .0, made .before .before .before .loop .inv .going .sized)
+
+same-length-4 : tie.Need-same-length-4 Inv-loop μ-loop
+same-length-4 c =
+    let made = c .before .before .before .before .before .before .before .before .before .before in
+    omega (arith, made .next .kept .1 .1 .1 .1 .1 .1 .1 .1 .0, made .before .before .before .loop .inv .kept)
+
+returns-2 : tie.Need-returns-2 Inv-loop μ-loop
+returns-2 c = search needs
+
+same-length-5 : tie.Need-same-length-5 Inv-loop μ-loop
+same-length-5 c =
+    let made = c .before .before .before .before .before .before .before .before .before .before .before in
+    omega (arith, made .before .before .before .before .before .before .before .before .before .pre .1 .0, made .next .kept .0, made .before .before .before .loop .inv .going .sized)
+
+same-length-6 : tie.Need-same-length-6 Inv-loop μ-loop
+same-length-6 c =
+    let made = c .before .before .before .before .before .before .before .before .before .before .before in
+    omega (arith, made .next .kept .1 .1 .1 .1 .1 .1 .1 .1 .0, made .before .before .before .loop .inv .kept)
+
+returns-3 : tie.Need-returns-3 Inv-loop μ-loop
+returns-3 c = search needs
+
+loop-less : tie.Need-loop-less Inv-loop μ-loop
+loop-less c =
+    let made = c .before .before .before .before .before .before .before .before .before .before .before .before in
+    stepping-less (made .before .before .before .loop .inv) (made .before .before .before .before .before .before .before .before .before .pre .0) (made .before .before .before .before .before .before .before .before .before .pre .1 .1 .0) (made .next .ensures) (c .before .if3 .left)
+
+loop-again : tie.Need-loop-again Inv-loop μ-loop
+loop-again c =
+    let made = c .before .before .before .before .before .before .before .before .before .before .before .before in
+    stepping-again (made .before .before .before .loop .inv) (made .before .before .before .before .before .before .before .before .before .pre .0) (made .before .before .before .before .before .before .before .before .before .pre .1 .1 .0) (made .next .ensures) (c .before .if3 .left) (made .next .kept .1 .1 .1 .1 .1 .1 .1 .1 .0)
+
+pub write-steps-spec : {M : Type 1} → statement M
+write-steps-spec =
+    tie.close
+    (tie.spec
+    Inv-loop
+    μ-loop
+    first-state-requires
+    loop-holds
+    next-requires
+    write-page-requires
+    same-length
+    same-length-2
+    returns
+    slice-reshare-prefix-write-all
+    slice-aggregate-write-all
+    write-all-requires
+    same-length-3
+    same-length-4
+    returns-2
+    same-length-5
+    same-length-6
+    returns-3
+    loop-less
+    loop-again)

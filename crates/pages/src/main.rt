@@ -1,0 +1,124 @@
+// The pages of standard input as PBM on standard output, one after the other, and the report's lines on standard error as they come.
+// The page measure is given by two words; without them it is 2552 by 3304. One byte more than the limit is read, so that a longer
+// input is seen to be longer. A page is written before its line: what PAGE and END tell of is written. If a write fails the
+// program stops and says UNWRITTEN.
+use libc::STDERR_FILENO;
+use libc::STDIN_FILENO;
+use libc::STDOUT_FILENO;
+ghost use mathlib.Core.Path.{_≡_};
+ghost use mathlib.Core.Bool.{true};
+ghost use Prim.Native.Nat.{_≤_};
+ghost use lib.ListN.{length};
+ghost use Rattle.rules.specs.Measure.{allowed, measureOf, pageBytes, longestStream};
+ghost use Rattle.rules.specs.States.{afresh};
+ghost use Rattle.sheets.specs.Steps.{longestLines};
+use rules::State;
+
+// A place for the longest job and one byte, in zeros. A function of its own hides the zeros, of which no proof can count so many.
+fn longest_input() -> [u8; 1048577] {
+    [0u8; 1048577]
+}
+
+// A place for the largest page, 4,800 by 6,800 dots.
+fn largest_page() -> [u8; 4080000]
+    ensures { λ r. ⌜ 4080000 ≡ length r ⌝ }
+{
+    [0u8; 4080000]
+}
+
+// The measure that word i of the command line gives, or another where there is no such word. A word that is too long is no measure.
+fn measure_word(i: usize, otherwise: usize) -> usize {
+    if os::arg_count() <= i {
+        return otherwise;
+    }
+    let mut word = [0u8; 20];
+    let n = os::arg(i, &mut word);
+    words::measure_of_word(&word[..n])
+}
+
+// The state before the first step.
+fn first_state(w: usize, h: usize) -> State
+    requires { ⌜ allowed w h ≡ true ⌝ }
+    ensures { λ r. ⌜ r ≡ afresh (measureOf w h) ⌝ }
+{
+    fresh::afresh(state::measure_of(w, h))
+}
+
+// A page behind its head, if there is one to be written; whether all of it was.
+fn write_page(drawn: bool, head: &[u8], page: &[u8]) -> bool {
+    if !drawn {
+        return true;
+    }
+    if !io::write_all(STDOUT_FILENO, head) {
+        return false;
+    }
+    io::write_all(STDOUT_FILENO, page)
+}
+
+// Step after step, until the job is over or a write fails; whether all was written.
+fn write_steps(page: &mut [u8], w: usize, h: usize, s: &[u8], head: &[u8], room: &mut [u8]) -> bool
+    requires { ⌜ allowed w h ≡ true ⌝ }
+    requires { ⌜ length (now page) ≡ pageBytes (measureOf w h) ⌝ }
+    requires { ⌜ length (now s) ≤ longestStream ⌝ }
+    requires { ⌜ longestLines ≤ length (now room) ⌝ }
+{
+    let mut state = first_state(w, h);
+    let mut place: usize = 0;
+    let mut number: usize = 1;
+    let mut findings: usize = 0;
+    loop {
+        let r = sheets::next(page, w, h, s, state, place, number, findings, room);
+        if !write_page(r.drawn, head, page) {
+            return false;
+        }
+        let end = r.end;
+        if !io::write_all(STDERR_FILENO, &room[..end]) {
+            return false;
+        }
+        if r.over {
+            return true;
+        }
+        let t = r.state;
+        state = t;
+        place = r.place;
+        number = r.number;
+        findings = r.findings;
+    }
+}
+
+// The pages of a job on a page of w by h dots; whether all was written.
+fn write_pages(w: usize, h: usize, s: &[u8], head: &[u8], room: &mut [u8]) -> bool
+    requires { ⌜ allowed w h ≡ true ⌝ }
+    requires { ⌜ length (now s) ≤ longestStream ⌝ }
+    requires { ⌜ longestLines ≤ length (now room) ⌝ }
+{
+    let mut page = largest_page();
+    let bytes = h * (w / 8);
+    write_steps(&mut page[..bytes], w, h, s, head, room)
+}
+
+// The first lines of a job, and its pages if it is not refused; whether all was written.
+fn write_job(w: usize, h: usize, s: &[u8]) -> bool {
+    let mut room = [0u8; 135];
+    let first = sheets::begin(w, h, s, &mut room);
+    let end = first.end;
+    if !io::write_all(STDERR_FILENO, &room[..end]) {
+        return false;
+    }
+    if first.refused {
+        return true;
+    }
+    let mut head = [0u8; 45];
+    let head_end = sheets::write_head(w, h, &mut head);
+    write_pages(w, h, s, &head[..head_end], &mut room)
+}
+
+fn main() {
+    let w = measure_word(1, 2552);
+    let h = measure_word(2, 3304);
+    let mut input = longest_input();
+    let n = io::read_full(STDIN_FILENO, &mut input);
+    if !write_job(w, h, &input[..n]) {
+        io::write_all(STDERR_FILENO, b"UNWRITTEN\n");
+    }
+}

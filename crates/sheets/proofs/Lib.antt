@@ -1,0 +1,6 @@
+-- The laws of steps.
+pub mod Holding
+pub mod Sizes
+pub mod Pages
+pub mod Whole
+pub mod Stepping

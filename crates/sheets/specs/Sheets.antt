@@ -1,0 +1,54 @@
+-- What the program `pages` writes of a job s on a page of W by H dots: the pages, as PBM, and the report's lines.
+use Prim.Native.Nat.{ℕ}
+use mathlib.Core.Bool.{Bool, cond, not, _||_}
+use mathlib.Core.List.{List, [], _∷_, _++_}
+use lib.Dec.{ltb}
+use lib.ListN.{length}
+use Rattle.rules.specs.declared.Refusal.{Refusal}
+use Rattle.rules.specs.declared.Refusal.the-variants.{PageMeasure, StreamLength}
+use Rattle.rules.specs.Measure.{allowed, measureOf, longestStream}
+use Rattle.rules.specs.Findings.{refusalNumber}
+use Rattle.rules.specs.Acts.{World}
+use Rattle.rules.specs.Run.{pages}
+use Rattle.rules.specs.Plain.{decimal}
+use Rattle.rules.specs.Report.{line, SIZE, REFUSED}
+use Rattle.printing.specs.Left.{streamLines}
+
+-- ---- pages
+-- the head of a page as PBM has it: P4, LF, the width, a space, the height, LF
+abbrev pub pbmHead : ℕ → ℕ → List ℕ
+pbmHead W H = 80 ∷ 52 ∷ 10 ∷ decimal W (32 ∷ decimal H (10 ∷ []))
+
+-- a page as PBM: its head, and its bytes as the page buffer has them
+abbrev pub pbm : ℕ → ℕ → List ℕ → List ℕ
+pbm W H p = pbmHead W H ++ p
+
+-- pages, one after the other
+unfoldable pub pbms : ℕ → ℕ → List (List ℕ) → List ℕ
+pbms W H [] = []
+pbms W H (p ∷ l) = pbm W H p ++ pbms W H l
+
+-- the pages that were handed over, in order, and the one that is left, if it is used
+abbrev pub pageSheets : World → List (List ℕ)
+pageSheets w = w .handed ++ cond (w .core .used) (w .page ∷ []) []
+
+-- ---- refusals: 10, then 12
+abbrev pub tooLong : List ℕ → Bool
+tooLong s = ltb longestStream (length s)
+
+abbrev pub isRefused : ℕ → ℕ → List ℕ → Bool
+isRefused W H s = not (allowed W H) || tooLong s
+
+abbrev pub refusedLine : Refusal → List ℕ
+refusedLine why = line REFUSED (refusalNumber why ∷ []) []
+
+-- ---- the whole
+-- standard output
+abbrev pub jobPages : ℕ → ℕ → List ℕ → List ℕ
+jobPages W H s = cond (isRefused W H s) [] (pbms W H (pageSheets (pages (measureOf W H) s)))
+
+-- the lines of standard error: "SIZE, W, H; in item order FAULT .., and PAGE ..; a used last page too; then END", as the report has them
+abbrev pub jobLines : ℕ → ℕ → List ℕ → List ℕ
+jobLines W H s =
+    let drawn = cond (tooLong s) (refusedLine StreamLength) (streamLines (measureOf W H) s) in
+    line SIZE (W ∷ H ∷ []) (cond (not (allowed W H)) (refusedLine PageMeasure) drawn)
