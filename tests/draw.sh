@@ -6,42 +6,14 @@ cd "$(dirname "$0")/.."
 export LC_ALL=C
 . tests/need.sh
 . tests/x86.sh
+. tests/checks.sh
 need python3 python3
-root=$PWD command=("$PWD/rovinuset")
+root=$PWD
 python3 tests/drawn.py tests/vectors/corpus "$root/rovinuset" ${x86_emulator:+"$x86_emulator"} target/bin/pages
 room=$(mktemp -d)
 trap 'chmod -R u+rwx "$room"; rm -rf "$room"' EXIT
 cd "$room" # it works from anywhere
 
-checks=0 failed=0
-# right TEXT COMMAND..: the command must succeed.
-right() {
-  local text=$1
-  shift
-  checks=$((checks + 1))
-  "$@" || {
-    failed=$((failed + 1))
-    echo "draw: $said: $text"
-  }
-}
-# draws WORDS..: the command with these words, standard input as it is.
-draws() {
-  said="draw $*" status=0
-  "${command[@]}" draw "$@" >printed 2>errors || status=$?
-}
-# ends STATUS LAST-LINE: nothing on standard error.
-ends() {
-  right "status $status, not $1" [ "$status" -eq "$1" ]
-  right "says: $(tail -n 1 printed)" [ "$(tail -n 1 printed)" = "$2" ]
-  right "says on standard error: $(cat errors)" [ ! -s errors ]
-}
-# refuses TEXT: status 2, one line on standard error with this text, nothing on standard output.
-refuses() {
-  right "status $status, not 2" [ "$status" -eq 2 ]
-  right "does not say: $1, but: $(cat errors)" grep -qF "$1" errors
-  right "not one line on standard error" [ "$(wc -l <errors)" -eq 1 ]
-  right "prints" [ ! -s printed ]
-}
 # has FOLDER FILES..: the folder has just these.
 has() {
   local folder=$1
@@ -51,7 +23,7 @@ has() {
 
 printf '\33&f1S\33*t300R\33*b2W\377\200\fA' >paper.pcl # the paper's example, and a letter on a second page
 printf '\33*t300R\33*b2W\377\200' >clean.pcl
-draws 640 800 paper.pcl -o new/folder
+call draw 640 800 paper.pcl -o new/folder
 ends 1 "2 pages, 1 finding, 9 dots: new/folder"
 has new/folder findings.txt page-1.png page-2.png
 right "does not say the finding" grep -qx 'finding 5, push when full, pop when empty: 1, the first at place 0' printed
@@ -62,67 +34,65 @@ right "findings.txt has other lines" cmp -s wanted <(tail -n 5 new/folder/findin
 
 # A folder tells of one job: nothing of an earlier one stays, other files do.
 echo mine >new/folder/page-1.txt
-draws -o new/folder 640 800 clean.pcl
+call draw -o new/folder 640 800 clean.pcl
 ends 0 "1 page, 0 findings, 9 dots: new/folder"
 has new/folder findings.txt page-1.png page-1.txt
-draws 641 800 clean.pcl -o new/folder
+call draw 641 800 clean.pcl -o new/folder
 refuses "refused, number 10: page measure not allowed"
 has new/folder findings.txt page-1.txt
 right "findings.txt does not say the refusal" grep -q '^REFUSED, number 10: ' new/folder/findings.txt
 head -c 1048577 /dev/zero >long.pcl
-draws long.pcl -o new/folder
+call draw long.pcl -o new/folder
 refuses "refused, number 12: job longer than 1,048,576 bytes"
 
 # Standard input: named, not named, closed.
-draws 640 800 - -o new <clean.pcl
+call draw 640 800 - -o new <clean.pcl
 ends 0 "1 page, 0 findings, 9 dots: new"
-draws -o new <clean.pcl
+call draw -o new <clean.pcl
 ends 0 "1 page, 0 findings, 9 dots: new"
-draws -o new <&-
+call draw -o new <&-
 ends 0 "0 pages, 0 findings, 0 dots: new"
 right "another page stays" [ ! -e new/page-1.png ]
-draws "-o" "a folder" clean.pcl
+call draw "-o" "a folder" clean.pcl
 ends 0 "1 page, 0 findings, 9 dots: a folder"
 
 # Wrong words and files: nothing is made.
 mkdir other
-draws clean.pcl
+call draw clean.pcl
 refuses "draw needs -o"
-draws clean.pcl -o
+call draw clean.pcl -o
 refuses "draw takes -o once"
-draws clean.pcl -o none -o none
+call draw clean.pcl -o none -o none
 refuses "draw takes -o once"
-draws clean.pcl -o ""
+call draw clean.pcl -o ""
 refuses "draw takes -o once"
-draws 640 clean.pcl -o none
+call draw 640 clean.pcl -o none
 refuses "not a number of dots: clean.pcl"
-draws six eight clean.pcl -o none
+call draw six eight clean.pcl -o none
 refuses "not a number of dots: six"
-draws 640 800 clean.pcl clean.pcl -o none
+call draw 640 800 clean.pcl clean.pcl -o none
 refuses "draw takes the page's width and height"
-draws nowhere.pcl -o none
+call draw nowhere.pcl -o none
 refuses "no such file: nowhere.pcl"
-draws other -o none
+call draw other -o none
 refuses "a directory, not a job: other"
-draws -o none <other
+call draw -o none <other
 refuses "a directory, not a job: standard input"
-draws clean.pcl -o paper.pcl
+call draw clean.pcl -o paper.pcl
 refuses "not a folder: paper.pcl"
-draws clean.pcl -o paper.pcl/folder
+call draw clean.pcl -o paper.pcl/folder
 refuses "the folder cannot be made: paper.pcl/folder"
 right "a folder was made" [ ! -e none ]
 
 # Disks that are full: no picture is left, whole or broken.
 python3 -c 'import random; r = random.Random(1); open("noise.pcl", "wb").write(b"\33*t300R" + b"".join(b"\33*b319W" + r.randbytes(319) for _ in range(800)) + b"\f")'
-limited() (ulimit -f 100 && draws noise.pcl -o full && exit "$status")
+limited() (ulimit -f 100 && call draw noise.pcl -o full && exit "$status")
 status=0
 limited || status=$?
 said="draw noise.pcl -o full, files of 100 KiB at most"
 refuses "not written: File too large"
 has full
-said="draw clean.pcl >/dev/full" status=0
-"${command[@]}" draw clean.pcl -o full >/dev/full 2>errors || status=$?
-: >printed
+unwritten draw clean.pcl -o full
 refuses "No space left on device"
 # small_disk COMMAND..: the command in a room of its own, where the folder `small` is a disk of 64 KiB.
 small_disk() {
@@ -159,18 +129,17 @@ right "status $status, not 0" [ "$status" -eq 0 ]
 right "no line of progress" grep -q $'\r0 pages, 0 findings so far' printed
 right "the line is not wiped: $(cat -v printed)" grep -q $'so far\r  *\r1 page, 0 findings, 9 dots: new\r$' printed
 
-# Permissions. Root may go past them, so that right is left behind.
-[ "$(id -u)" != 0 ] || command=(setpriv --bounding-set -dac_override,-dac_read_search "${command[@]}")
+# Permissions.
+bound
 : >shut.pcl
 mkdir shut
 chmod 0 shut.pcl
 chmod 500 shut
-draws shut.pcl -o none
+call draw shut.pcl -o none
 refuses "no permission to read: shut.pcl"
-draws clean.pcl -o shut
+call draw clean.pcl -o shut
 refuses "no permission to write in: shut"
-draws clean.pcl -o shut/folder
+call draw clean.pcl -o shut/folder
 refuses "the folder cannot be made: shut/folder"
 
-echo "draw: $checks checks, $failed failed"
-[ "$failed" -eq 0 ]
+counted draw
