@@ -4,51 +4,34 @@
 set -eu
 cd "$(dirname "$0")/.."
 export LC_ALL=C
-second=$PWD/second/target/release/second command=$PWD/rovinuset corpus=$PWD/tests/vectors/corpus
+. tests/checks.sh
+second=$PWD/second/target/release/second corpus=$PWD/tests/vectors/corpus
 (cd second && cargo build --release --offline --quiet)
 room=$(mktemp -d)
 trap 'rm -rf "$room"' EXIT
 cd "$room" # it works from anywhere
 
-checks=0 failed=0
 # gives STATUS EXPECTED: $status and the file `printed` must be these; EXPECTED is a file.
 gives() {
-  checks=$((checks + 1))
-  if [ "$status" -ne "$1" ] || ! cmp -s "$2" printed; then
-    failed=$((failed + 1))
-    echo "command: $said: status $status, or another text"
-  fi
+  right "status $status, not $1" [ "$status" -eq "$1" ]
+  right "another text" cmp -s "$2" printed
 }
-# call WORDS..: the command with these words, standard input as it is.
-call() {
-  said="$*" status=0
-  "$command" "$@" >printed 2>errors || status=$?
-}
-# refuses TEXT: status 1, nothing on standard output, and this text in the first line of what it says.
-refuses() {
-  checks=$((checks + 1))
-  if [ "$status" -ne 1 ] || [ -s printed ] || ! head -n 1 errors | grep -qF "$1"; then
-    failed=$((failed + 1))
-    echo "command: $said: status $status, or it does not say: $1"
-  fi
-}
-
 # refused NUMBER: status 2, nothing on standard output, and one line that says the refusal.
 refused() {
-  checks=$((checks + 1))
   printf 'REFUSED\t%s\n' "$1" >refusal
-  if [ "$status" -ne 2 ] || [ -s printed ] || ! cmp -s refusal errors; then
-    failed=$((failed + 1))
-    echo "command: $said: status $status, or it is not refused with $1"
-  fi
+  right "status $status, not 2" [ "$status" -eq 2 ]
+  right "not refused with $1" cmp -s refusal errors
+  right "prints" [ ! -s printed ]
 }
 
 printf '\33&f1S\33*t300R\33*b2W\377\200\f' >paper.pcl
 printf 'SIZE\t640\t800\nFAULT\t0\t5\nPAGE\t1\t9\nEND\t0\t4500\t0\t1\n' >paper.txt
 call report paper.pcl
-gives 0 paper.txt
+gives 1 paper.txt
 call report <paper.pcl
-gives 0 paper.txt
+gives 1 paper.txt
+call report - <paper.pcl
+gives 1 paper.txt
 : >empty
 "$second" report <empty >empty.txt
 call report empty
@@ -58,11 +41,11 @@ gives 0 empty.txt
 head -c 65537 /dev/zero >longer
 printf 'SIZE\t640\t800\nREFUSED\t12\n' >longer.txt
 call report longer
-gives 0 longer.txt
+gives 2 longer.txt
 for job in gm-curve-150 hp2xx-75 groff-lj4-letter; do
   "$second" report <"$corpus/$job.pcl" >wanted
   call report "$corpus/$job.pcl"
-  gives 0 wanted
+  gives "$(tail -n 1 wanted | awk '{ print ($5 > 0) }')" wanted # 0 clean, 1 findings
 done
 
 printf '\33&a10c5R' >combined.pcl
@@ -70,6 +53,8 @@ printf '\33&a10C\33&a5R' >combined.txt
 call plain combined.pcl
 gives 0 combined.txt
 call plain <combined.pcl
+gives 0 combined.txt
+call plain 640 800 - <combined.pcl
 gives 0 combined.txt
 call plain 640 800 combined.pcl
 gives 0 combined.txt
@@ -102,8 +87,7 @@ refused 10
 yes "$(printf '\33&acccC')" | tr -d '\n' | head -c 700000 >growing # each of its four commands is written as five bytes
 call plain growing
 refused 15
-checks=$((checks + 1))
-python3 "$corpus/../../plains.py" "$corpus" "$command" plain || failed=$((failed + 1))
+right "other plain streams" python3 "$corpus/../../plains.py" "$corpus" "${command[@]}" plain
 
 mkdir folder
 call plain nowhere
@@ -128,16 +112,21 @@ call report folder
 refuses "a directory, not a job: folder"
 call report paper.pcl paper.pcl
 refuses "report takes one file"
+call
+ends 0 "$(tail -n 1 printed)"
+cp printed usage
 call print
-refuses "no such word: print"
-if [ "$(id -u)" != 0 ]; then # root may read everything
-  : >shut
-  chmod 0 shut
-  call report shut
-  refuses "no permission to read: shut"
-  call plain shut
-  refuses "no permission to read: shut"
-fi
+right "status $status, not 2" [ "$status" -eq 2 ]
+{ echo "rovinuset: no such word: print"; cat usage; } >wanted
+right "says another text" cmp -s wanted errors
+unwritten report combined.pcl
+refuses "the report could not be written"
+: >shut
+chmod 0 shut
+bound # root may read everything
+call report shut
+refuses "no permission to read: shut"
+call plain shut
+refuses "no permission to read: shut"
 
-echo "command: $checks checks, $failed failed"
-[ "$failed" -eq 0 ]
+counted command

@@ -1,0 +1,114 @@
+#!/usr/bin/env python3
+"""Draws the corpus by the command and compares the pictures with the table of the corpus.
+
+    drawn.py FOLDER COMMAND PAGES..    COMMAND is rovinuset, PAGES runs the proved program `pages`
+
+The PNG files are decoded here, by other lines than those that write them, and must be the pages that the program itself gives. A line for each
+difference, then the count. Exit status 1 on any difference, or if the folder has not the streams of the table.
+"""
+
+import hashlib
+import os
+import struct
+import subprocess
+import sys
+import tempfile
+import zlib
+
+import corpus
+
+ROW = corpus.WIDTH // 8 + 1  # a filter byte first
+
+
+def chunks(data):
+    """The chunks of a PNG by name; a wrong check sum is an error."""
+    if data[:8] != b"\x89PNG\r\n\x1a\n":
+        raise ValueError("no PNG")
+    found, at = {}, 8
+    while at < len(data):
+        (length,) = struct.unpack_from(">I", data, at)
+        name, inside = data[at + 4 : at + 8], data[at + 8 : at + 8 + length]
+        if struct.unpack_from(">I", data, at + 8 + length)[0] != zlib.crc32(name + inside):
+            raise ValueError(f"the sum of {name}")
+        found[name] = inside
+        at += 12 + length
+    return found
+
+
+def decoded(path):
+    """The page buffer of a PNG of one bit a dot, white set, rows as they are."""
+    with open(path, "rb") as file:
+        parts = chunks(file.read())
+    rows = zlib.decompress(parts[b"IDAT"])
+    forms = struct.unpack(">IIBBBBB", parts[b"IHDR"]), struct.unpack(">IIB", parts[b"pHYs"]), len(rows), any(rows[::ROW]), parts[b"IEND"]
+    if forms != ((corpus.WIDTH, corpus.HEIGHT, 1, 0, 0, 0, 0), (11811, 11811, 1), ROW * corpus.HEIGHT, False, b""):
+        raise ValueError("another form")
+    white = int.from_bytes(b"".join(rows[at + 1 : at + ROW] for at in range(0, len(rows), ROW)), "big")
+    return (white ^ ((1 << 8 * corpus.PAGE_BYTES) - 1)).to_bytes(corpus.PAGE_BYTES, "big")
+
+
+def wanted_end(lines, folder):
+    """The last line of the terminal, and the exit status, by the table."""
+    pages, found = int(lines[0]["pages_base"]), int(lines[0]["findings"])
+    dots = sum(int(line["dots_base"]) for line in lines if line["page"] != "-")
+    said = (pages, "page"), (found, "finding"), (dots, "dot")
+    return ", ".join(f"{n} {noun}{'' if n == 1 else 's'}" for n, noun in said) + f": {folder}", 1 if found else 0
+
+
+def drawn(command, program, stream, lines, room):
+    """What is wrong with the pictures of a stream, and how many there are."""
+    job, folder = os.path.join(room, "job.pcl"), os.path.join(room, "drawn")
+    with open(job, "wb") as file:
+        file.write(stream)
+    done = subprocess.run([command, "draw", job, "-o", folder], stdin=subprocess.DEVNULL, stdout=subprocess.PIPE)
+    end = done.stdout.decode().splitlines()[-1:], done.returncode
+    if end != ([wanted_end(lines, folder)[0]], wanted_end(lines, folder)[1]):
+        return [f"ended by {end}"], 0
+    count = int(lines[0]["pages_base"])
+    names = [f"page-{number}.png" for number in range(1, count + 1)]
+    if sorted(os.listdir(folder)) != sorted([*names, "findings.txt"]):
+        return ["the folder has other files"], 0
+    pages = [decoded(os.path.join(folder, name)) for name in names]
+    return [*by_table(pages, lines), *by_program(program, stream, pages), *told(folder, lines)], count
+
+
+def by_table(pages, lines):
+    table = {int(line["page"]): (line["dots_base"], line["sha256_base16"]) for line in lines if line["page"] != "-"}
+    for number, page in enumerate(pages, 1):
+        dots, digest = corpus.count_dots(page), hashlib.sha256(page).hexdigest()[:16]
+        if (str(dots), digest) != table.get(number, ("0", digest)):
+            yield f"page {number}: {dots} dots, hash {digest}, not the table's"
+
+
+def by_program(program, stream, pages):
+    words = [*program, str(corpus.WIDTH), str(corpus.HEIGHT)]
+    given = subprocess.run(words, input=stream, stdout=subprocess.PIPE, stderr=subprocess.DEVNULL).stdout
+    if given != b"".join(corpus.HEADER + page for page in pages):
+        yield "the pictures are not the program's pages"
+
+
+def told(folder, lines):
+    """findings.txt names each finding once in words, and once as the program's own line."""
+    with open(os.path.join(folder, "findings.txt"), encoding="utf-8") as file:
+        text = file.read().splitlines()
+    words = sum(line.startswith("place ") for line in text), sum(line.startswith("FAULT\t") for line in text)
+    if words != (int(lines[0]["findings"]),) * 2:
+        yield f"findings.txt has {words} findings"
+
+
+def main(words):
+    folder, command, *program = words
+    streams, differences, pages = corpus.read_table(folder), [], 0
+    with tempfile.TemporaryDirectory() as room:
+        for name, lines in streams.items():
+            wrong, count = drawn(command, program, corpus.read_stream(folder, name), lines, room)
+            differences += [f"{name}: {line}" for line in wrong]
+            pages += count
+    if len(streams) != corpus.STREAMS:
+        differences.append(f"the table names {len(streams)} streams, not {corpus.STREAMS}")
+    print(*differences, f"drawn: {len(streams)} streams, {pages} pages, {len(differences)} differences", sep="\n")
+    return 1 if differences else 0
+
+
+if __name__ == "__main__":
+    sys.exit(main(sys.argv[1:]))
