@@ -2,9 +2,9 @@
 use mathlib.Core.Path.{_≡_, refl, sym, _∙_, ap}
 use Prim.Native.Nat.{ℕ, _+_, _≤_, _<_}
 use native.Mathlib.Omega.{arith}
-use mathlib.Core.List.{List, [], _∷_, _++_, append-nil}
+use mathlib.Core.List.{List, [], _∷_}
 use mathlib.Core.Bool.{Bool, true, false, cond, not}
-use lib.Dec.{eqb, ltb}
+use lib.Dec.{eqb}
 use lib.ListN.{length, take}
 use lib.Seq.{sets-eq, take-at}
 use borrow.Author.Tests.{eq-eqb, ne-eqb, lt-ltb, le-ltb}
@@ -12,7 +12,6 @@ use Rattle.common.specs.Bits.{onesAll}
 use Rattle.common.specs.Stores.{Wrote}
 use Rattle.common.proofs.Choices.{choice}
 use Rattle.common.proofs.Stores.{wrote-both}
-use Rattle.rules.specs.declared.Finding.{Finding}
 use Rattle.rules.specs.declared.Refusal.{Refusal}
 use Rattle.rules.specs.declared.Refusal.the-variants.{PageMeasure, StreamLength}
 use Rattle.rules.specs.declared.State.{State}
@@ -21,16 +20,14 @@ use Rattle.rules.specs.Measure.{allowed, longestStream}
 use Rattle.rules.specs.Findings.{findingNumber, refusalNumber, isClean}
 use Rattle.rules.specs.Plain.{decimal}
 use Rattle.rules.specs.Acts.{World, world}
-use Rattle.rules.specs.Report.{fields, line, SIZE, REFUSED, FAULT, PAGE, END, fault, lastLines}
+use Rattle.rules.specs.Report.{fields, line, SIZE, PAGE, END, lastLines}
 use Rattle.theorems.specs.Statements.{RunPromise}
 use Rattle.written.proofs.Laws.{decimal-append, decimal-short}
 use Rattle.line.proofs.Texts.{line-append}
 use Rattle.printing.specs.Left.{counted, printed}
 use Rattle.printing.proofs.Bound.{number-length, two-length, end-length}
-use Rattle.sheets.specs.declared.Beginning.{Beginning}
-use Rattle.sheets.specs.declared.Sheet.{Sheet}
-use Rattle.sheets.specs.Sheets.{pbmHead, tooLong, isRefused, refusedLine}
-use Rattle.sheets.specs.Steps.{Holds, longestHead, longestLines, firstLines, Begins, isOver, isDrawn, stepLines, sheetOf, stepItems, Stepped}
+use Rattle.sheets.specs.Sheets.{pbmHead, tooLong, refusedLine}
+use Rattle.sheets.specs.Steps.{Holds, longestHead, longestLines, firstLines, Begins, isOver, isDrawn, stepLines, stepItems, Stepped}
 
 -- a text within the bound that was written is there whole, where there is room for the longest
 pub held : {most : ℕ} {text before after : List ℕ} {r : ℕ} → length text ≤ most → Wrote before 0 text after r → Holds most text before after r

@@ -1,8 +1,7 @@
 -- The pages that are left: a run hands over the first of them or none. Assumes nothing.
 use mathlib.Core.Path.{_≡_, refl, ap, ap₂, sym, _∙_, subst}
-use Prim.Native.Nat.{ℕ, suc, _+_, _*_, _≤_}
+use Prim.Native.Nat.{ℕ, suc, _+_, _*_}
 use native.Mathlib.Numerals.{add-one}
-use native.Mathlib.Omega.{arith}
 use mathlib.Core.List.{List, [], _∷_, _++_, append-assoc, append-nil}
 use mathlib.Core.Bool.{Bool, true, false, cond}
 use lib.ListN.{length, drop}
@@ -12,7 +11,7 @@ use Rattle.rules.specs.declared.State.{State}
 use Rattle.rules.specs.Measure.{blank}
 use Rattle.rules.specs.States.{afresh}
 use Rattle.rules.specs.Acts.{Act, next, endsPage, shown, World, world, show, showAll, over}
-use Rattle.rules.specs.Run.{Outcome, run, runFrom, Trace, trace, enough, wholeStream, actsOf, acts, pages}
+use Rattle.rules.specs.Run.{Outcome, run, Trace, trace, enough, wholeStream, actsOf, acts, pages}
 use Rattle.theorems.proofs.Streams.{to-end}
 use Rattle.theorems.proofs.Pages.{Blank, showAll-append, showAll-blank}
 use Rattle.theorems.proofs.Runs.{leftBy, Follows, follows}

@@ -1,11 +1,11 @@
--- A run keeps the size of its page. Assumes nothing.
+-- A run keeps the size of its page, and all pages of a stream have it. Assumes nothing.
 use mathlib.Core.Path.{_≡_, refl, ap, ap₂, sym, _∙_}
 use Prim.Native.Nat.{ℕ, zero, suc, _+_, _*_, _/_, _≤_}
 use native.Mathlib.Omega.{arith}
-use mathlib.Core.List.{List, [], _∷_, _++_}
+use mathlib.Core.List.{List, [], _∷_, _++_, append-nil, head-eq-of-cons-eq, tail-eq-of-cons-eq}
 use mathlib.Core.Bool.{Bool, true, false, cond, _&&_, _||_}
 use lib.Dec.{eqb}
-use lib.ListN.{length, take, drop, take-append-drop, length-append, length-replicate}
+use lib.ListN.{length, take, drop, take-append-drop, length-append, replicate, length-replicate}
 use Rattle.common.specs.Lists.{isNil}
 use Rattle.common.proofs.Choices.{choice}
 use Rattle.rules.specs.declared.Measure.{Measure}
@@ -15,8 +15,9 @@ use Rattle.rules.specs.Measure.{dotUnit, pageBytes, blank}
 use Rattle.rules.specs.Findings.{isClean}
 use Rattle.rules.specs.Dots.{inkedLine, inkedLines, painted}
 use Rattle.rules.specs.Acts.{Act, type, control, escape, order, print, draw, begun, next, endsPage, shown, World, world, show, showAll, step, over}
-use Rattle.rules.specs.Run.{Outcome, pageOf, runFrom, readied, run}
+use Rattle.rules.specs.Run.{Outcome, pageOf, runFrom, readied, run, acts, firstWorld, pages}
 use Rattle.theorems.proofs.Pages.{step-single}
+use Rattle.sheets.specs.Sheets.{sizes, PagesAreWhole}
 
 -- a page row painted on is as long as before
 line-length : (row : List ℕ) (dots from j : ℕ) (p : List ℕ) → length (inkedLine row dots from j p) ≡ length p
@@ -89,3 +90,40 @@ module _ (g : Measure) where
       ready : (b : Bool) → length (cond b p (blank g)) ≡ pageBytes g
       ready true = e
       ready false = length-replicate (pageBytes g) 0
+
+  -- ---- all pages of a stream
+  -- so many bytes each, with one more page behind them
+  more-sized : (l : List (List ℕ)) (p : List ℕ) → sizes l ≡ replicate (length l) (pageBytes g) → length p ≡ pageBytes g
+      → sizes (l ++ (p ∷ [])) ≡ replicate (length (l ++ (p ∷ []))) (pageBytes g)
+  unfolding sizes
+  more-sized [] p h e = rw e
+  more-sized (q ∷ l) p h e = ap₂ _∷_ (head-eq-of-cons-eq h) (more-sized l p (tail-eq-of-cons-eq h) e)
+
+  record AllSized (w : World) : Type 0 where
+    page : length (w .page) ≡ pageBytes g
+    handed : sizes (w .handed) ≡ replicate (length (w .handed)) (pageBytes g)
+
+  show-sized : (a : Act) (w : World) → AllSized w → AllSized (show g a w)
+  unfolding show
+  show-sized a w h =
+      let f : length (shown g a (w .core) (w .page)) ≡ pageBytes g = shown-length a (w .core) (w .page) ∙ h .page in
+      choice AllSized (endsPage a (w .core)) {a = world (next g a (w .core)) (blank g) (w .handed ++ (shown g a (w .core) (w .page) ∷ []))}
+      {b = world (next g a (w .core)) (shown g a (w .core) (w .page)) (w .handed)}
+      record { page = length-replicate (pageBytes g) 0; handed = more-sized (w .handed) (shown g a (w .core) (w .page)) (h .handed) f } record { page = f; handed = h .handed }
+
+  all-sized : (l : List Act) (w : World) → AllSized w → AllSized (showAll g l w)
+  unfolding showAll
+  all-sized [] w h = h
+  all-sized (a ∷ l) w h = all-sized l (show g a w) (show-sized a w h)
+
+-- all pages of a stream have H rows of W/8 bytes
+pub pages-are-whole : PagesAreWhole
+unfolding pages
+pages-are-whole g s =
+    let w : World = showAll g (acts g s) (firstWorld g) in
+    let h : AllSized g w = all-sized g (acts g s) (firstWorld g) (unfold sizes in record { page = length-replicate (pageBytes g) 0; handed = refl }) in
+    go w h (w .core .used)
+  where
+    go : (w : World) → AllSized g w → (u : Bool) → sizes (w .handed ++ cond u (w .page ∷ []) []) ≡ replicate (length (w .handed ++ cond u (w .page ∷ []) [])) (pageBytes g)
+    go w h true = more-sized g (w .handed) (w .page) (h .handed) (h .page)
+    go w h false = rw append-nil (h .handed)

@@ -1,30 +1,28 @@
 -- Steps one behind the other write the whole job. Assumes nothing.
-use mathlib.Core.Path.{_≡_, refl, ap, ap₂, sym, _∙_, subst}
-use Prim.Native.Nat.{ℕ, zero, suc, _+_, _*_, _/_, _≤_, _<_}
+use mathlib.Core.Path.{_≡_, refl, ap, sym, _∙_}
+use Prim.Native.Nat.{ℕ, zero, suc, _+_, _*_, _≤_, _<_}
 use native.Mathlib.Numerals.{add-one}
 use native.Mathlib.Omega.{arith}
 use mathlib.Core.List.{List, [], _∷_, _++_, append-nil}
-use mathlib.Core.Bool.{Bool, true, false, cond, not, _||_, false≢true}
-use lib.Dec.{eqb, ltb}
+use mathlib.Core.Bool.{Bool, true, false, cond, false≢true}
+use lib.Dec.{eqb}
 use lib.ListN.{length, drop}
 use borrow.Author.Tests.{eqb-true, eq-eqb, ne-eqb, ltb-false}
-use Rattle.rules.specs.declared.Refusal.the-variants.{PageMeasure, StreamLength}
 use Rattle.rules.specs.declared.State.{State}
-use Rattle.rules.specs.declared.Ran.{Ran}
 use Rattle.rules.specs.Measure.{allowed, measureOf, blank, pageBytes, longestStream}
 use Rattle.rules.specs.States.{freshCore, afresh}
-use Rattle.rules.specs.Acts.{world, over}
-use Rattle.rules.specs.Run.{Outcome, answer, run, enough, pages}
-use Rattle.rules.specs.Report.{line, SIZE, lastLines}
+use Rattle.rules.specs.Acts.{world}
+use Rattle.rules.specs.Run.{Outcome, answer, pages}
+use Rattle.rules.specs.Report.{SIZE, lastLines}
 use Rattle.theorems.specs.Statements.{RunPromise}
 use Rattle.theorems.proofs.Reading.{left}
 use Rattle.line.proofs.Texts.{line-append}
-use Rattle.printing.specs.Left.{drawn, linesLeft, counted, printed, streamLines}
+use Rattle.printing.specs.Left.{drawn, linesLeft, counted, streamLines}
 use Rattle.printing.proofs.Items.{left-whole}
 use Rattle.printing.proofs.Reporting.{Going, going-start, going-less, going-again, call-ran, call-more, call-over, call-same, lines-again, lines-end}
-use Rattle.sheets.specs.Sheets.{pbms, pageSheets, tooLong, isRefused, refusedLine, jobPages, jobLines}
+use Rattle.sheets.specs.Sheets.{pageSheets, tooLong}
 use Rattle.sheets.specs.Left.{pagesLeft}
-use Rattle.sheets.specs.Steps.{firstLines, stepItems, isOver, isDrawn, stepLines, sheetOf, Written, written, stepWrites, steps, jobSteps, WritesAll, StepsWriteTheJob}
+use Rattle.sheets.specs.Steps.{stepItems, Written, written, stepWrites, steps, jobSteps, WritesAll, StepsWriteTheJob}
 use Rattle.sheets.proofs.Sizes.{run-sized}
 use Rattle.sheets.proofs.Pages.{pages-whole, pages-over, run-pages}
 

@@ -1,12 +1,14 @@
 -- What the program `pages` writes of a job s on a page of W by H dots: the pages, as PBM, and the report's lines.
+use mathlib.Core.Path.{_≡_}
 use Prim.Native.Nat.{ℕ}
 use mathlib.Core.Bool.{Bool, cond, not, _||_}
 use mathlib.Core.List.{List, [], _∷_, _++_}
 use lib.Dec.{ltb}
-use lib.ListN.{length}
+use lib.ListN.{length, replicate}
+use Rattle.rules.specs.declared.Measure.{Measure}
 use Rattle.rules.specs.declared.Refusal.{Refusal}
 use Rattle.rules.specs.declared.Refusal.the-variants.{PageMeasure, StreamLength}
-use Rattle.rules.specs.Measure.{allowed, measureOf, longestStream}
+use Rattle.rules.specs.Measure.{allowed, measureOf, pageBytes, longestStream}
 use Rattle.rules.specs.Findings.{refusalNumber}
 use Rattle.rules.specs.Acts.{World}
 use Rattle.rules.specs.Run.{pages}
@@ -52,3 +54,12 @@ abbrev pub jobLines : ℕ → ℕ → List ℕ → List ℕ
 jobLines W H s =
     let drawn = cond (tooLong s) (refusedLine StreamLength) (streamLines (measureOf W H) s) in
     line SIZE (W ∷ H ∷ []) (cond (not (allowed W H)) (refusedLine PageMeasure) drawn)
+
+-- ---- a reader of PBM finds each page where the one before ends: all have H rows of W/8 bytes
+-- the lengths of pages
+unfoldable pub sizes : List (List ℕ) → List ℕ
+sizes [] = []
+sizes (p ∷ l) = length p ∷ sizes l
+
+abbrev pub PagesAreWhole : Type 0
+PagesAreWhole = (g : Measure) (s : List ℕ) → sizes (pageSheets (pages g s)) ≡ replicate (length (pageSheets (pages g s))) (pageBytes g)

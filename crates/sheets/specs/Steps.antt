@@ -1,7 +1,7 @@
 -- A job in steps: a step is one run, its lines, and the page that it ended or the last one. What a step gives, and what all steps write.
 use mathlib.Core.Path.{_≡_}
 use Prim.Native.Nat.{ℕ, zero, suc, _+_, _≤_}
-use mathlib.Core.Bool.{Bool, true, false, cond, not}
+use mathlib.Core.Bool.{Bool, cond, not}
 use mathlib.Core.List.{List, [], _∷_, _++_}
 use lib.Dec.{eqb}
 use lib.ListN.{length, take}
@@ -17,7 +17,7 @@ use Rattle.rules.specs.Report.{line, SIZE, lastLines}
 use Rattle.printing.specs.Left.{counted, printed}
 use Rattle.sheets.specs.declared.Sheet.{Sheet}
 use Rattle.sheets.specs.declared.Beginning.{Beginning}
-use Rattle.sheets.specs.Sheets.{pbmHead, pbms, tooLong, isRefused, refusedLine, jobPages, jobLines}
+use Rattle.sheets.specs.Sheets.{pbms, tooLong, isRefused, refusedLine, jobPages, jobLines}
 
 -- what is promised of a room in which a text was written from the start on, r the place behind it
 pub record Holds (most : ℕ) (text before after : List ℕ) (r : ℕ) : Type 0 where
