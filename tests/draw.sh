@@ -84,8 +84,14 @@ call draw clean.pcl -o paper.pcl/folder
 refuses "the folder cannot be made: paper.pcl/folder"
 right "a folder was made" [ ! -e none ]
 
-# Disks that are full: no picture is left, whole or broken.
-python3 -c 'import random; r = random.Random(1); open("noise.pcl", "wb").write(b"\33*t300R" + b"".join(b"\33*b319W" + r.randbytes(319) for _ in range(800)) + b"\f")'
+# Disks that are full: no picture is left, whole or broken. The first page has room, the second has none.
+cat >noise.py <<'TEXT'
+import random
+noise = random.Random(1)
+rows = b"".join(b"\33*b319W" + noise.randbytes(319) for _ in range(800))
+open("noise.pcl", "wb").write(b"A\f\33*t300R" + rows + b"\f")
+TEXT
+python3 noise.py
 limited() (ulimit -f 100 && call draw noise.pcl -o full && exit "$status")
 status=0
 limited || status=$?

@@ -1,0 +1,246 @@
+#!/usr/bin/env python3
+"""Opens records in a browser and checks what it shows.
+
+    recorded.py shown BROWSER ROVINUSET FOLDER      the records go to this folder
+    recorded.py pictures BROWSER RECORD FOLDER      a picture of a record at each of the two widths goes to this folder
+
+The browser has a copy of each record with a script at its end that says what is on the page: pictures as the browser decoded them, rows, marks
+and where they lie, links and what they lead to, and everything that would be fetched. The copy is in a frame of the width that is asked for, as a
+browser's own window has a least width; the page around it takes what the copy says as its title. A line for each failed check, then the count;
+exit status 1 on any.
+"""
+
+import base64
+import html
+import json
+import lzma
+import os
+import re
+import struct
+import subprocess
+import sys
+import zlib
+
+HERE = os.path.dirname(os.path.abspath(__file__))
+VECTORS = os.path.join(HERE, "vectors")
+sys.path.insert(0, os.path.join(VECTORS, "damaged"))
+import drawn  # noqa: E402
+import make  # noqa: E402
+
+WIDTHS = (400, 1400)
+PROBE = """<script>
+addEventListener('load', () => {
+  const all = found => [...document.querySelectorAll(found)];
+  const box = one => one.getBoundingClientRect();
+  const links = all('a').map(one => one.getAttribute('href'));
+  const ids = all('[id]').map(one => one.id);
+  parent.postMessage(JSON.stringify({
+    width: innerWidth,
+    scrolled: document.documentElement.scrollWidth,
+    text: document.body.innerText,
+    pictures: all('img').map(one => [one.complete, one.naturalWidth, one.naturalHeight]),
+    seen: all('img').filter(one => box(one).width > 0).map(one => [one.className, Math.round(box(one).width), Math.round(box(one).height)]),
+    rows: all('#list tbody tr').map(one => one.id),
+    kinds: all('#kinds tbody tr').map(one => Number(one.cells[2].innerText.replace(/[^0-9]/g, ''))),
+    marks: all('.mark').map(one => {
+      const picture = box(one.parentNode.querySelector('.picture'));
+      return [one.id, one.getAttribute('href'), (box(one).top - picture.top) / picture.height, picture.left - box(one).right];
+    }),
+    links: links.length,
+    lost: links.filter(one => !/^#./.test(one) || !document.getElementById(one.slice(1))),
+    twice: ids.filter((one, at) => ids.indexOf(one) !== at),
+    outside: all('*').flatMap(one => [...one.attributes]).filter(one => /^(src|href|srcset|data|action|poster|background)$/.test(one.name))
+      .map(one => one.value.slice(0, 30)).filter(one => !/^(#|data:image\\/png;base64,)/.test(one)),
+    fetched: performance.getEntriesByType('resource').map(one => one.name.slice(0, 30)).filter(one => !one.startsWith('data:')),
+    scripts: all('script, link, iframe, object, embed, style').map(one => one.tagName).join(' '),
+  }), '*');
+});
+</script>
+</body>"""
+FRAME = """<!DOCTYPE html><title>nothing</title><script>addEventListener('message', said => { document.title = said.data; });</script>
+<iframe src="copy.html%s" style="border:0;width:%dpx;height:1600px"></iframe>"""
+
+
+class Checks:
+    def __init__(self):
+        self.done, self.failed = 0, 0
+
+    def right(self, what, wanted, given):
+        self.done += 1
+        if wanted != given:
+            self.failed += 1
+            print(f"record: {what}: wanted {wanted}, given {given}")
+
+
+class Records:
+    """Records made by the command, and what a browser shows of them."""
+
+    def __init__(self, browser, command, folder):
+        self.browser, self.command, self.folder = browser, command, folder
+        self.checks = Checks()
+
+    def path(self, name):
+        return os.path.join(self.folder, name)
+
+    def make(self, name, job, status, *words):
+        """The record of these bytes, as text."""
+        with open(self.path(name), "wb") as file:
+            file.write(job)
+        goal = self.path(name + ".html")
+        nothing = subprocess.DEVNULL
+        done = subprocess.run([self.command, "record", *words, self.path(name), "-o", goal], stdin=nothing, stdout=nothing, stderr=nothing)
+        self.checks.right(f"{name}: status", status, done.returncode)
+        with open(goal, encoding="utf-8") as file:
+            return file.read()
+
+    def shown(self, name, text, width, anchor=""):
+        """What the browser shows of this record, opened at this width."""
+        with open(self.path("copy.html"), "w", encoding="utf-8") as file:
+            file.write(text.replace("default-src 'none';", "default-src 'none'; script-src 'unsafe-inline';", 1).replace("</body>", PROBE))
+        with open(self.path("frame.html"), "w", encoding="utf-8") as file:
+            file.write(FRAME % (anchor, width))
+        dump = browse(self.browser, "--dump-dom", "--virtual-time-budget=10000", "file://" + self.path("frame.html"))
+        facts = json.loads(html.unescape(re.search(r"<title>(.*?)</title>", dump, re.DOTALL)[1]))
+        self.alone(f"{name}, {width} wide", text, facts, width)
+        return facts
+
+    def alone(self, what, text, facts, width):
+        """It is whole in itself, fits the window, and its links lead somewhere."""
+        right = self.checks.right
+        right(f"{what}: the window's width", width, facts["width"])
+        right(f"{what}: scrolls sideways", False, facts["scrolled"] > width)
+        right(f"{what}: links that lead nowhere", [], facts["lost"])
+        right(f"{what}: names given twice", [], facts["twice"])
+        right(f"{what}: from outside", [], facts["outside"] + facts["fetched"])
+        right(f"{what}: scripts and styles", "STYLE SCRIPT", facts["scripts"])  # the script is the probe's
+        right(f"{what}: words in the text", [], re.findall(r"<script|@import|url\(|http:|https:| on\w+=", text))
+        right(f"{what}: the policy", 1, text.count("content=\"default-src 'none'; img-src data:; style-src 'unsafe-inline'\""))
+        pictures = [(whole, wide > 0, high > 0) for whole, wide, high in facts["pictures"]]
+        right(f"{what}: pictures", [(True, True, True)] * text.count("<img "), pictures)
+
+
+def browse(browser, *words):
+    """Standard output of the browser without a window and without a network."""
+    room = ["--headless", "--disable-gpu", "--hide-scrollbars", "--no-first-run", "--host-resolver-rules=MAP * ~NOTFOUND"]
+    sandbox = ["--no-sandbox"] if os.getuid() == 0 else []
+    done = subprocess.run([browser, *room, *sandbox, *words], stdout=subprocess.PIPE, stderr=subprocess.DEVNULL)
+    return done.stdout.decode("utf-8", "replace")
+
+
+def vector(*names):
+    path = os.path.join(VECTORS, *names)
+    with (lzma.open if path.endswith(".xz") else open)(path, "rb") as file:
+        return file.read()
+
+
+def damaged_curve(records):
+    """Each damaged row is marked where it is blank, and mark and line lead to each other."""
+    right, name = records.checks.right, "damaged-curve.pcl"
+    job = vector("damaged", name)
+    text = records.make(name, job, 1)
+    right("the same job, the same record", text, records.make(name, job, 1))
+    rows = [187 + 4 * row for row in make.DAMAGE]  # the page's dot rows: from 187 on, four to a row of 75 an inch
+    for width in WIDTHS:
+        facts = records.shown(name, text, width)
+        right("verdict", True, "This job has 9 findings: 9 damaged rows. The damaged rows are blank on the page." in facts["text"])
+        right("pictures", [[True, 2552, 3304], [True, 638, 826], [True, 319, 413]], facts["pictures"])
+        right("the picture that is seen, dot for dot", [["narrow", 319, 413] if width == 400 else ["fit", 638, 826]], facts["seen"])
+        right("as many rows as findings", [f"finding-{number}" for number in range(1, 10)], facts["rows"])
+        right("counts by number", [0, 0, 0, 0, 0, 0, 9], facts["kinds"])
+        right("marks and what they lead to", [(f"mark-{n}", f"#finding-{n}") for n in range(1, 10)], [tuple(one[:2]) for one in facts["marks"]])
+        right("links back", [f"#mark-{n}" for n in range(1, 10)], re.findall(r'<td data-label="On the page"><a href="(#mark-\d+)">', text))
+        right("rows said", rows, [int(row.replace(",", "")) for row in re.findall(r'">page 1, dot row ([\d,]+)', text)])
+        apart = [abs(one[2] * 3304 - row) for one, row in zip(facts["marks"], rows)]
+        right("marks lie beside their rows", True, max(apart) < 12)  # a dot of the screen is up to eight of the page
+        right("marks lie in the margin", True, all(-2 <= one[3] <= 2 for one in facts["marks"]))
+    for width in WIDTHS:
+        full = records.shown(name, text, width, "#page-1-full")
+        right("full size", [["full", 2552, 3304]], full["seen"])
+    no_dot_lost(right, text)
+
+
+def no_dot_lost(right, text):
+    """Where the page has a dot, its reduced pictures are not white; where it has none, they are."""
+    full, fit, narrow = (greys(base64.b64decode(one)) for one in re.findall(r'src="data:image/png;base64,([^"]*)"', text))
+    for by, small in ((4, fit), (8, narrow)):
+        inked = {(x // by, y // by) for y, row in enumerate(full) for x, grey in enumerate(row) if not grey}
+        right(f"reduced by {by}", inked, {(x, y) for y, row in enumerate(small) for x, grey in enumerate(row) if grey < 255})
+
+
+def greys(picture):
+    """The rows of a PNG of one or eight bits of grey."""
+    parts = drawn.chunks(picture)
+    width, height, bits = struct.unpack(">IIB", parts[b"IHDR"][:9])
+    data, wide = zlib.decompress(parts[b"IDAT"]), width * bits // 8
+    rows = (data[at + 1 : at + 1 + wide] for at in range(0, height * (wide + 1), wide + 1))
+    return [[byte >> shift & (1 << bits) - 1 for byte in row for shift in range(8 - bits, -1, -bits)] for row in rows]
+
+
+def end_states(records):
+    """What is said of the end, and a clean job."""
+    right = records.checks.right
+    clean = records.shown("clean", records.make("clean.pcl", vector("corpus", "gnuplot-hpdj-75.pcl"), 0), 1400)
+    right("clean: verdict", True, "This job has no findings." in clean["text"])
+    right("clean: end", True, "The job ended its last page itself and began no other." in clean["text"])
+    for name, job, said in (
+        ("empty", b"", "No page was used."),
+        ("used", b"A", "The job did not end its last page. The page was used, so it is page 1 here."),
+        ("pushed", b"\x1b&f0s0SA\f", "2 positions left on it"),
+        ("short", b"A\x1b*b5Wab", "The job did not end its last page."),
+        ("open", b"A\f\x1b&a5c", "The job ended its last page itself"),
+        ("longest", b"\f" + b" " * 1048575, "Not known whether the job ended its last page"),
+    ):
+        text = records.make(name, job, 1 if name in ("short", "open") else 0)
+        right(f"{name}: end", True, said in text)
+
+
+def many_findings(records):
+    """A long list is cut and says so; the counts are whole."""
+    right = records.checks.right
+    text = records.make("many.pcl", vector("corpus", "gnuplot-hppj-180.pcl.xz"), 1)
+    facts = records.shown("many", text, 400)
+    right("many: rows", 500, len(facts["rows"]))
+    right("many: counts", 3461, sum(facts["kinds"]))
+    right("many: said", True, "2,961 of 3,461 findings are not in this list." in facts["text"])
+
+
+def many_pages(records):
+    """Damaged rows on a late page: its picture is there, the first rows are marked, and what is left out is said."""
+    right = records.checks.right
+    job = b"A\f" * 60 + b"\x1b*b2M" + b"\x1b*b1W\x05" * 250 + b"\f"
+    text = records.make("pages.pcl", job, 1, "640", "800")
+    facts = records.shown("pages", text, 1400)
+    right("pages: pictures", 40, len(facts["seen"]))
+    right("pages: the damaged page", True, 'id="page-61"' in text)
+    right("pages: marks", 200, len(facts["marks"]))
+    right("pages: rows", 250, len(facts["rows"]))
+    for said in ("Of 61 pages 40 are shown here", "200 of 250 damaged rows, the first ones, are marked in the margins."):
+        right("pages: said", True, said in facts["text"])
+
+
+def refused_and_named(records):
+    right = records.checks.right
+    facts = records.shown("refused", records.make("refused.pcl", b"\f" * 1048577, 2), 400)
+    right("refused: verdict", True, "This job was refused, number 12: job longer than 1,048,576 bytes. Nothing was drawn." in facts["text"])
+    name = "<b>&amp;\"'.pcl"
+    facts = records.shown("named", records.make(name, b"\x1b&l1<X", 1), 400)
+    right("a name with signs of HTML", True, f"Record of {name}" in facts["text"])
+
+
+def shown(browser, command, folder):
+    records = Records(browser, command, folder)
+    for each in (damaged_curve, end_states, many_findings, many_pages, refused_and_named):
+        each(records)
+    print(f"record: {records.checks.done} checks in the browser, {records.checks.failed} failed")
+    return 1 if records.checks.failed else 0
+
+
+def pictures(browser, record, folder):
+    for width, height in zip(WIDTHS, (1500, 1700)):
+        goal = os.path.abspath(os.path.join(folder, f"record-{width}.png"))
+        browse(browser, f"--window-size={width},{height}", f"--screenshot={goal}", "file://" + os.path.abspath(record))
+    return 0
+
+
+if __name__ == "__main__":
+    sys.exit({"shown": shown, "pictures": pictures}[sys.argv[1]](*sys.argv[2:]))
