@@ -115,6 +115,8 @@ refuses "report takes one file"
 call
 ends 0 "$(tail -n 1 printed)"
 cp printed usage
+call --help
+gives 0 usage
 call print
 right "status $status, not 2" [ "$status" -eq 2 ]
 { echo "rovinuset: no such word: print"; cat usage; } >wanted

@@ -117,6 +117,36 @@ else
   echo "draw: no disk can be mounted here: a full one is tried by the largest size of a file alone"
 fi
 
+# tool PROGRAM..: tools/draw.py over another program, whose words are the page's measure.
+tool() {
+  status=0
+  python3 -B "$root/tools/draw.py" broken clean.pcl 640 800 "$@" <clean.pcl >printed 2>errors || status=$?
+}
+# A program that breaks off, or whose lines and pages do not agree: nothing is left of it.
+mkdir broken
+said="a page that is cut"
+tool sh -c 'printf "P4\n640 800\n..."; printf "SIZE\t640\t800\nPAGE\t1\t0\nEND\t0\t0\t0\t0\n" >&2'
+refuses "not written: the program broke off: a page that it did not end"
+has broken
+said="no last line"
+tool sh -c 'printf "P4\n640 800\n"; head -c 64000 /dev/zero; printf "SIZE\t640\t800\nPAGE\t1\t0\n" >&2'
+refuses "not written: the program broke off: no last line"
+has broken
+said="other dots"
+tool sh -c 'printf "P4\n640 800\n"; head -c 64000 /dev/zero; printf "SIZE\t640\t800\nPAGE\t1\t9\nEND\t0\t0\t0\t0\n" >&2'
+refuses "not written: the program broke off: its pages have other dots than its lines say"
+has broken
+said="a line that it has no word for"
+tool sh -c 'printf "UNWRITTEN\n" >&2'
+refuses "not written: the program broke off: UNWRITTEN"
+said="a program that is not there"
+tool ./nowhere
+refuses "not written: No such file or directory: ./nowhere"
+said="stopped"
+tool sh -c 'printf "P4\n640 800\n"; head -c 64000 /dev/zero; sleep 0.5; kill $PPID; sleep 5'
+refuses "not written: stopped"
+has broken
+
 # A long job: a line of progress on a terminal, wiped at the end. Here the program waits before it begins.
 said="draw on a terminal, slowly" status=0
 cat >slow <<'TEXT'

@@ -19,6 +19,7 @@ import re
 import struct
 import subprocess
 import sys
+import tempfile
 import zlib
 
 HERE = os.path.dirname(os.path.abspath(__file__))
@@ -123,7 +124,9 @@ def browse(browser, *words):
     """Standard output of the browser without a window and without a network."""
     room = ["--headless", "--disable-gpu", "--hide-scrollbars", "--no-first-run", "--host-resolver-rules=MAP * ~NOTFOUND"]
     sandbox = ["--no-sandbox"] if os.getuid() == 0 else []
-    done = subprocess.run([browser, *room, *sandbox, *words], stdout=subprocess.PIPE, stderr=subprocess.DEVNULL)
+    with tempfile.TemporaryDirectory() as profile:
+        command = [browser, *room, *sandbox, f"--user-data-dir={profile}", *words]
+        done = subprocess.run(command, stdout=subprocess.PIPE, stderr=subprocess.DEVNULL)
     return done.stdout.decode("utf-8", "replace")
 
 
@@ -174,6 +177,17 @@ def greys(picture):
     data, wide = zlib.decompress(parts[b"IDAT"]), width * bits // 8
     rows = (data[at + 1 : at + 1 + wide] for at in range(0, height * (wide + 1), wide + 1))
     return [[byte >> shift & (1 << bits) - 1 for byte in row for shift in range(8 - bits, -1, -bits)] for row in rows]
+
+
+def rows_elsewhere(records):
+    """Damaged rows in an open sequence, on the next page, moved there by a command, and below the foot: where they lie is said of each."""
+    job = b"\x1b*b2m1w\x051W\x05\f\x1b*p300Y\x1b*b1W\x05\x1b*p9999Y\x1b*b1W\x05"
+    text = records.make("elsewhere.pcl", job, 1)
+    said = re.findall(r'<a href="#mark-\d">(.*?)</a>', text)
+    where = ["page 1, dot row 187, 15.9 mm from the top", "page 1, dot row 191, 16.2 mm from the top"]
+    where += ["page 2, dot row 450, 38.1 mm from the top", "page 2, below the page's foot"]
+    records.checks.right("elsewhere: rows", where, said)
+    records.shown("elsewhere", text, 400)
 
 
 def end_states(records):
@@ -229,7 +243,7 @@ def refused_and_named(records):
 
 def shown(browser, command, folder):
     records = Records(browser, command, folder)
-    for each in (damaged_curve, end_states, many_findings, many_pages, refused_and_named):
+    for each in (damaged_curve, rows_elsewhere, end_states, many_findings, many_pages, refused_and_named):
         each(records)
     print(f"record: {records.checks.done} checks in the browser, {records.checks.failed} failed")
     return 1 if records.checks.failed else 0

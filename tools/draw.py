@@ -13,10 +13,12 @@ import os
 import re
 import sys
 
+import ending
 import files
 import findings
 import pages
 import png
+import progress
 
 PICTURE = re.compile(r"page-[1-9][0-9]*\.png(\.part)?|findings\.txt(\.part)?")
 
@@ -86,14 +88,14 @@ def draw(folder, name, width, height, command):
     job, lines = pages.read_job(sys.stdin.buffer), findings.Lines()
     clear(folder)
     try:
-        with files.Progress(lambda: f"{len(lines.dots)} pages, {len(lines.places)} findings so far"):
+        with progress.Progress(lambda: f"{len(lines.dots)} pages, {len(lines.places)} findings so far"):
             digests = draw_pages(folder, width, height, job, command, lines)
             text = "\n".join(told(name, width, height, job, lines, digests)) + "\n"
             files.write_whole(os.path.join(folder, "findings.txt"), text.encode("utf-8", "replace"))
     except BaseException:
         clear(folder)
         raise
-    return files.told_end("draw", lines, lambda: summary(folder, lines))
+    return ending.told_end("draw", lines, lambda: summary(folder, lines))
 
 
 def main(words):
@@ -102,4 +104,4 @@ def main(words):
 
 
 if __name__ == "__main__":
-    sys.exit(files.ended("draw", main, sys.argv[1:]))
+    sys.exit(ending.ended("draw", main, sys.argv[1:]))

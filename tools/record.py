@@ -12,10 +12,12 @@ import sys
 from collections import Counter
 from contextlib import closing
 
+import ending
 import files
 import findings
 import pages
 import png
+import progress
 import recordhtml
 
 ROOT = os.path.dirname(os.path.dirname(os.path.abspath(__file__)))
@@ -116,7 +118,7 @@ def gathered(facts):
         last_page(facts)
 
 
-def progress(facts):
+def so_far(facts):
     return f"{len(facts.digests)} pages, {len(facts.lines.places)} findings, {len(facts.marks)} rows marked so far"
 
 
@@ -128,12 +130,12 @@ def main(words):
     path, name, width, height, *command = words
     job = pages.read_job(sys.stdin.buffer)
     facts = Facts(files.shown(name), int(width), int(height), job, command)
-    with files.Progress(lambda: progress(facts)):
+    with progress.Progress(lambda: so_far(facts)):
         gathered(facts)
         text = recordhtml.record(facts)
         files.write_whole(path, text.encode("utf-8"))
-    return files.told_end("record", facts.lines, lambda: summary(path, facts.lines))
+    return ending.told_end("record", facts.lines, lambda: summary(path, facts.lines))
 
 
 if __name__ == "__main__":
-    sys.exit(files.ended("record", main, sys.argv[1:]))
+    sys.exit(ending.ended("record", main, sys.argv[1:]))

@@ -1,0 +1,34 @@
+"""How a tool ends: what it says, and its exit status."""
+
+import signal
+import sys
+
+import files
+import findings
+import pages
+
+
+def told_end(word, lines, summary):
+    """Says how the job ended, a refusal on standard error, and gives the exit status. A failed write is seen at once."""
+    if lines.refused is not None:
+        print(f"rovinuset: {word}: refused, number {lines.refused}: {findings.REFUSALS[lines.refused]}", file=sys.stderr)
+    else:
+        sys.stdout.write(summary())
+        sys.stdout.flush()
+    return lines.status()
+
+
+def ended(word, main, words):
+    """The exit status of the main function. What goes wrong is one line on standard error, and 2."""
+    signal.signal(signal.SIGTERM, signal.default_int_handler)  # so that what was written in part is removed
+    try:
+        return main(words)
+    except OSError as error:
+        why = files.reason(error)
+    except pages.Broken as error:
+        why = f"the program broke off: {error}"
+    except KeyboardInterrupt:
+        why = "stopped"
+    print(f"rovinuset: {word}: not written: {why}", file=sys.stderr)
+    sys.stdout = None  # what could not be printed is not tried again
+    return 2
