@@ -123,6 +123,8 @@ right "status $status, not 2" [ "$status" -eq 2 ]
 right "says another text" cmp -s wanted errors
 unwritten report combined.pcl
 refuses "the report could not be written"
+unwritten plain combined.pcl
+refuses "the plain stream could not be written"
 : >shut
 chmod 0 shut
 bound # root may read everything
