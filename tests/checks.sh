@@ -23,6 +23,12 @@ unwritten() {
   "${command[@]}" "$@" >/dev/full 2>errors || status=$?
   : >printed
 }
+# closed WORDS..: the same with an output that is closed.
+closed() {
+  said="$* >&-" status=0
+  "${command[@]}" "$@" 2>errors >&- || status=$?
+  : >printed
+}
 # bound: from here on the command is run without root's right to go past the permissions of files.
 bound() {
   [ "$(id -u)" != 0 ] || command=(setpriv --bounding-set -dac_override,-dac_read_search "${command[@]}")

@@ -125,6 +125,12 @@ unwritten report combined.pcl
 refuses "the report could not be written"
 unwritten plain combined.pcl
 refuses "the plain stream could not be written"
+closed report combined.pcl
+refuses "the report could not be written"
+closed plain combined.pcl
+refuses "the plain stream could not be written"
+unwritten
+right "status $status, not 2" [ "$status" -eq 2 ]
 : >shut
 chmod 0 shut
 bound # root may read everything

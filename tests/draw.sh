@@ -55,6 +55,8 @@ ends 0 "0 pages, 0 findings, 0 dots: new"
 right "another page stays" [ ! -e new/page-1.png ]
 call draw "-o" "a folder" clean.pcl
 ends 0 "1 page, 0 findings, 9 dots: a folder"
+LC_ALL=C.UTF-8 call draw -o $'\377' clean.pcl # a name that is no text
+ends 0 "1 page, 0 findings, 9 dots: ?"
 
 # Wrong words and files: nothing is made.
 mkdir other
@@ -99,6 +101,8 @@ said="draw noise.pcl -o full, files of 100 KiB at most"
 refuses "not written: File too large"
 has full
 unwritten draw clean.pcl -o full
+refuses "No space left on device"
+closed draw clean.pcl -o full
 refuses "No space left on device"
 # small_disk COMMAND..: the command in a room of its own, where the folder `small` is a disk of 64 KiB.
 small_disk() {

@@ -54,6 +54,8 @@ right "the link is gone" [ -L link.html ]
 right "another record behind the link" cmp -s first.html record.html
 call record clean.pcl -o /dev/stdout
 right "not the record on standard output" grep -q '^</html>' printed
+"${command[@]}" record clean.pcl -o /dev/stdout | cat >printed
+right "not the record in a pipe" grep -q '^</html>' printed
 
 # Wrong words and files: a record that was there stays as it was.
 mkdir folder

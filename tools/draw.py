@@ -5,7 +5,7 @@
 
 The folder always tells of one job. Pictures (page-1.png, ..) and findings.txt of an earlier job are removed first; other files stay. If
 something cannot be written, what was written of this job is removed too. findings.txt comes last. A refused job has findings.txt alone.
-Exit status: 0 clean, 1 findings, 2 refused or not written.
+Exit status: 0 clean, 3 findings, 2 refused or not written.
 """
 
 import hashlib

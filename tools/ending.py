@@ -1,4 +1,4 @@
-"""How a tool ends: what it says, and its exit status."""
+"""How a tool ends: what it says, and its exit status. That of findings is 3 here: 1 is Python's own, when it fails. rovinuset makes 1 of it."""
 
 import signal
 import sys
@@ -6,6 +6,8 @@ import sys
 import files
 import findings
 import pages
+
+FINDINGS = 3
 
 
 def told_end(word, lines, summary):
@@ -15,12 +17,13 @@ def told_end(word, lines, summary):
     else:
         sys.stdout.write(summary())
         sys.stdout.flush()
-    return lines.status()
+    return FINDINGS if lines.status() == 1 else lines.status()
 
 
 def ended(word, main, words):
     """The exit status of the main function. What goes wrong is one line on standard error, and 2."""
     signal.signal(signal.SIGTERM, signal.default_int_handler)  # so that what was written in part is removed
+    sys.stdout.reconfigure(errors="replace")  # a folder's name may be any bytes
     try:
         return main(words)
     except OSError as error:
@@ -29,6 +32,8 @@ def ended(word, main, words):
         why = f"the program broke off: {error}"
     except KeyboardInterrupt:
         why = "stopped"
+    except MemoryError:
+        why = "not enough memory"
     print(f"rovinuset: {word}: not written: {why}", file=sys.stderr)
     sys.stdout = None  # what could not be printed is not tried again
     return 2

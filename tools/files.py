@@ -13,11 +13,11 @@ def remove(path):
 
 def write_whole(path, data):
     """Writes beside the file and renames, so that a full disk never leaves a part under the name. A device is written as it is."""
-    path = os.path.realpath(path)
     if os.path.exists(path) and not stat.S_ISREG(os.stat(path).st_mode):
         with open(path, "wb") as device:
             device.write(data)
         return
+    path = os.path.realpath(path)
     part = path + ".part"
     try:
         with open(part, "wb") as file:

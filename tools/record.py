@@ -3,7 +3,7 @@
 
     record.py FILE NAME WIDTH HEIGHT COMMAND..    the job is standard input, COMMAND runs the proved program `pages`
 
-A refused job has a record too, which says so. Exit status: 0 clean, 1 findings, 2 refused or not written.
+A refused job has a record too, which says so. Exit status: 0 clean, 3 findings, 2 refused or not written.
 """
 
 import hashlib
