@@ -13,6 +13,9 @@ BYTES_SHOWN = 16
 UNITS_A_DOT = 24
 LABEL = 0.045  # the height of a mark's number on a narrow screen, in page widths
 POLICY = "default-src 'none'; img-src data:; style-src 'unsafe-inline'"  # a browser fetches nothing and runs nothing
+READING = """<p>Text in a job moves the cursor and is not drawn. A picture that is reduced loses no dot: where the page has one, it is never white.
+Full size shows each dot.</p>
+"""
 STYLE = os.path.join(os.path.dirname(os.path.abspath(__file__)), "record.css")
 
 
@@ -260,18 +263,14 @@ def section(name, title, inside):
 def body(facts):
     if facts.lines.refused is not None:
         return ""
-    links = (("pages", "Pages"), ("findings", "Findings"), ("end", "End of the job"), ("numbers", "What the numbers mean"))
+    links = (("pages", "Pages"), ("findings", "Findings"), ("end", "End of the job"), ("reading", "How to read this record"))
     nav = "<nav>%s</nav>\n" % " ".join(f'<a href="#{name}">{title}</a>' for name, title in links)
     return nav + "".join(
         (
             section("pages", "Pages", all_pages(facts)),
             section("findings", "Findings", listed(facts)),
             section("end", "End of the job", end(facts)),
-            section(
-                "numbers",
-                "What the numbers mean",
-                "<p>Text in a job moves the cursor and is not drawn.</p>\n" + kinds(facts.lines),
-            ),
+            section("reading", "How to read this record", READING + kinds(facts.lines)),
         )
     )
 
