@@ -19,11 +19,21 @@ if [ "${1-}" = pictures ]; then
   ./rovinuset draw "$curve" -o "$room" || [ $? -eq 1 ]
   python3 -B tests/recorded.py pictures chromium "$room/record.html" docs
   cp "$room/page-1.png" docs/damaged-curve.png
+  . tests/x86.sh
+  printf '#!/bin/sh\nexec %s "%s" "$@"\n' "${x86_emulator:+"\"$x86_emulator\""}" "$root/target/bin/pages" >"$room/pages"
+  chmod +x "$room/pages"
+  while read -r job picture; do python3 -B tests/upright.py "$room/pages" "tests/vectors/$job.pcl" "docs/curve-$picture.png"; done <<'JOBS'
+corpus/netpbm-pbmtolj-curve-150-packbits sent
+damaged/flat-curve-before before
+damaged/flat-curve after
+JOBS
   exit
 fi
 
 said="the damaged curve"
 right "not as make.py makes it" python3 -B tests/vectors/damaged/make.py --check
+said="the flat curve"
+right "not as flat.py makes it" python3 -B tests/vectors/damaged/flat.py --check
 said="the browser"
 mkdir "$room/browser"
 right "shows something else" python3 -B tests/recorded.py shown chromium "$root/rovinuset" "$room/browser"

@@ -77,16 +77,16 @@ def made(source):
     return (out + source[at:]).replace(b"\x1b*b0M", b"\x1b*b2M", 1)
 
 
-def main(words):
-    with open(SOURCE, "rb") as source:
-        stream = made(source.read())
+def kept(path, stream, words):
+    """Writes the stream, or with --check only compares it; the exit status."""
     if words == ["--check"]:
-        with open(MADE, "rb") as there:
+        with open(path, "rb") as there:
             return 0 if there.read() == stream else 1
-    with open(MADE, "wb") as there:
+    with open(path, "wb") as there:
         there.write(stream)
     return 0
 
 
 if __name__ == "__main__":
-    sys.exit(main(sys.argv[1:]))
+    with open(SOURCE, "rb") as file:
+        sys.exit(kept(MADE, made(file.read()), sys.argv[1:]))
