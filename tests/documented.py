@@ -11,6 +11,8 @@ import subprocess
 import sys
 import tempfile
 
+# said only where a program is missing or older than its sources
+BUILDING = re.compile(r"^rovinuset: proving and building .*\n", re.M)
 ROOT = os.path.dirname(os.path.dirname(os.path.abspath(__file__)))
 
 
@@ -52,7 +54,7 @@ def main():
                 run = subprocess.run(["bash", "-c", "(exit %d); %s" % (status, command)], cwd=folder, stdin=subprocess.DEVNULL,
                                      stdout=subprocess.PIPE, stderr=subprocess.STDOUT)
                 status = run.returncode
-                printed = run.stdout.decode("utf-8", "replace")
+                printed = BUILDING.sub("", run.stdout.decode("utf-8", "replace"))
                 commands += 1
                 if not agrees(shown, printed):
                     wrong += 1
