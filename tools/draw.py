@@ -75,15 +75,6 @@ def told(name, width, height, job, lines, digests):
     yield from findings.raw(width, height, lines)
 
 
-def summary(folder, lines):
-    """What the terminal says: a line for each kind of finding, then the counts."""
-    kinds = [
-        f"finding {number}, {findings.FINDINGS[number][0]}: {count}, the first at place {lines.places[lines.numbers.index(number)]}\n"
-        for number, count in lines.counts().items()
-    ]
-    return "".join(kinds) + f"{findings.counts_said(lines)}: {folder}\n"
-
-
 def draw(folder, name, width, height, command):
     job, lines = pages.read_job(sys.stdin.buffer), findings.Lines()
     clear(folder)
@@ -95,7 +86,7 @@ def draw(folder, name, width, height, command):
     except BaseException:
         clear(folder)
         raise
-    return ending.told_end("draw", lines, lambda: summary(folder, lines))
+    return ending.told_end("draw", lines, folder)
 
 
 def main(words):

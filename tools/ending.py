@@ -10,12 +10,12 @@ import pages
 FINDINGS = 3
 
 
-def told_end(word, lines, summary):
-    """Says how the job ended, a refusal on standard error, and gives the exit status. A failed write is seen at once."""
+def told_end(word, lines, goal):
+    """Says how the job ended and where it is written, a refusal on standard error, and gives the exit status. A failed write is seen at once."""
     if lines.refused is not None:
         print(f"rovinuset: {word}: refused, number {lines.refused}: {findings.REFUSALS[lines.refused]}", file=sys.stderr)
     else:
-        sys.stdout.write(summary())
+        sys.stdout.write("\n".join(findings.summary(lines)) + f": {goal}\n")
         sys.stdout.flush()
     return FINDINGS if lines.status() == 1 else lines.status()
 

@@ -110,9 +110,11 @@ def faults(lines, start, end):
     return (f"FAULT\t{lines.places[index]}\t{lines.numbers[index]}" for index in range(start, end))
 
 
-def counts_said(lines):
-    """The last line of the terminal."""
-    return ", ".join(
+def summary(lines):
+    """What the terminal says of a job: a line for each kind of finding, then the counts."""
+    for number, count in lines.counts().items():
+        yield f"finding {number}, {FINDINGS[number][0]}: {count}, the first at place {lines.places[lines.numbers.index(number)]}"
+    yield ", ".join(
         (
             counted(len(lines.dots), "page", "pages"),
             counted(len(lines.places), "finding", "findings"),

@@ -122,10 +122,6 @@ def so_far(facts):
     return f"{len(facts.digests)} pages, {len(facts.lines.places)} findings, {len(facts.marks)} rows marked so far"
 
 
-def summary(path, lines):
-    return f"{findings.counts_said(lines)}: {path}\n"
-
-
 def main(words):
     path, name, width, height, *command = words
     job = pages.read_job(sys.stdin.buffer)
@@ -134,7 +130,7 @@ def main(words):
         gathered(facts)
         text = recordhtml.record(facts)
         files.write_whole(path, text.encode("utf-8"))
-    return ending.told_end("record", facts.lines, lambda: summary(path, facts.lines))
+    return ending.told_end("record", facts.lines, path)
 
 
 if __name__ == "__main__":
