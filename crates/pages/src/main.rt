@@ -11,7 +11,7 @@ ghost use Prim.Native.Nat.{_≤_};
 ghost use lib.ListN.{length};
 ghost use Rattle.rules.specs.Measure.{allowed, measureOf, pageBytes, longestStream};
 ghost use Rattle.rules.specs.States.{afresh};
-ghost use Rattle.sheets.specs.Steps.{longestLines};
+ghost use Rattle.opening.specs.Opening.{longestLines};
 use rules::State;
 
 // A place for the longest job and one byte, in zeros. A function of its own hides the zeros, of which no proof can count so many.
@@ -100,7 +100,7 @@ fn write_pages(w: usize, h: usize, s: &[u8], head: &[u8], room: &mut [u8]) -> bo
 // The first lines of a job, and its pages if it is not refused; whether all was written.
 fn write_job(w: usize, h: usize, s: &[u8]) -> bool {
     let mut room = [0u8; 135];
-    let first = sheets::begin(w, h, s, &mut room);
+    let first = opening::begin(w, h, s, &mut room);
     let end = first.end;
     if !io::write_all(STDERR_FILENO, &room[..end]) {
         return false;
@@ -109,7 +109,7 @@ fn write_job(w: usize, h: usize, s: &[u8]) -> bool {
         return true;
     }
     let mut head = [0u8; 45];
-    let head_end = sheets::write_head(w, h, &mut head);
+    let head_end = opening::write_head(w, h, &mut head);
     write_pages(w, h, s, &head[..head_end], &mut room)
 }
 

@@ -14,10 +14,10 @@ use Rattle.rules.specs.States.{afresh}
 use Rattle.theorems.proofs.Reading.{left}
 use Rattle.theorems.proofs.Measures.{allowed-gives}
 use Rattle.printing.proofs.Reporting.{Going, going-start}
-use Rattle.sheets.specs.declared.Beginning.{Beginning}
+use Rattle.opening.specs.declared.Beginning.{Beginning}
 use Rattle.sheets.specs.declared.Sheet.{Sheet}
-use Rattle.sheets.specs.Sheets.{tooLong}
-use Rattle.sheets.specs.Steps.{longestLines, Begins, Stepped}
+use Rattle.opening.specs.Opening.{tooLong, longestLines, Begins}
+use Rattle.sheets.specs.Steps.{Stepped}
 use Rattle.sheets.proofs.Whole.{some, again, less}
 
 -- a page that is allowed is within the largest

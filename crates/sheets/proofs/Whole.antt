@@ -20,7 +20,8 @@ use Rattle.line.proofs.Texts.{line-append}
 use Rattle.printing.specs.Left.{drawn, linesLeft, counted, streamLines}
 use Rattle.printing.proofs.Items.{left-whole}
 use Rattle.printing.proofs.Reporting.{Going, going-start, going-less, going-again, call-ran, call-more, call-over, call-same, lines-again, lines-end}
-use Rattle.sheets.specs.Sheets.{pageSheets, tooLong}
+use Rattle.opening.specs.Opening.{tooLong}
+use Rattle.sheets.specs.Sheets.{pageSheets}
 use Rattle.sheets.specs.Left.{pagesLeft}
 use Rattle.sheets.specs.Steps.{stepItems, Written, written, stepWrites, steps, jobSteps, WritesAll, StepsWriteTheJob}
 use Rattle.sheets.proofs.Sizes.{run-sized}

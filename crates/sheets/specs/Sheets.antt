@@ -1,26 +1,19 @@
 -- What the program `pages` writes of a job s on a page of W by H dots: the pages, as PBM, and the report's lines.
 use mathlib.Core.Path.{_≡_}
 use Prim.Native.Nat.{ℕ}
-use mathlib.Core.Bool.{Bool, cond, not, _||_}
+use mathlib.Core.Bool.{cond, not}
 use mathlib.Core.List.{List, [], _∷_, _++_}
-use lib.Dec.{ltb}
 use lib.ListN.{length, replicate}
 use Rattle.rules.specs.declared.Measure.{Measure}
-use Rattle.rules.specs.declared.Refusal.{Refusal}
 use Rattle.rules.specs.declared.Refusal.the-variants.{PageMeasure, StreamLength}
-use Rattle.rules.specs.Measure.{allowed, measureOf, pageBytes, longestStream}
-use Rattle.rules.specs.Findings.{refusalNumber}
+use Rattle.rules.specs.Measure.{allowed, measureOf, pageBytes}
 use Rattle.rules.specs.Acts.{World}
 use Rattle.rules.specs.Run.{pages}
-use Rattle.rules.specs.Plain.{decimal}
-use Rattle.rules.specs.Report.{line, SIZE, REFUSED}
+use Rattle.rules.specs.Report.{line, SIZE}
 use Rattle.printing.specs.Left.{streamLines}
+use Rattle.opening.specs.Opening.{pbmHead, tooLong, isRefused, refusedLine}
 
 -- ---- pages
--- the head of a page as PBM has it: P4, LF, the width, a space, the height, LF
-abbrev pub pbmHead : ℕ → ℕ → List ℕ
-pbmHead W H = 80 ∷ 52 ∷ 10 ∷ decimal W (32 ∷ decimal H (10 ∷ []))
-
 -- a page as PBM: its head, and its bytes as the page buffer has them
 abbrev pub pbm : ℕ → ℕ → List ℕ → List ℕ
 pbm W H p = pbmHead W H ++ p
@@ -33,16 +26,6 @@ pbms W H (p ∷ l) = pbm W H p ++ pbms W H l
 -- the pages that were handed over, in order, and the one that is left, if it is used
 abbrev pub pageSheets : World → List (List ℕ)
 pageSheets w = w .handed ++ cond (w .core .used) (w .page ∷ []) []
-
--- ---- refusals: 10, then 12
-abbrev pub tooLong : List ℕ → Bool
-tooLong s = ltb longestStream (length s)
-
-abbrev pub isRefused : ℕ → ℕ → List ℕ → Bool
-isRefused W H s = not (allowed W H) || tooLong s
-
-abbrev pub refusedLine : Refusal → List ℕ
-refusedLine why = line REFUSED (refusalNumber why ∷ []) []
 
 -- ---- the whole
 -- standard output

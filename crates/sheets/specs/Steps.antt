@@ -1,46 +1,21 @@
 -- A job in steps: a step is one run, its lines, and the page that it ended or the last one. What a step gives, and what all steps write.
 use mathlib.Core.Path.{_≡_}
-use Prim.Native.Nat.{ℕ, zero, suc, _+_, _≤_}
-use mathlib.Core.Bool.{Bool, cond, not}
+use Prim.Native.Nat.{ℕ, zero, suc, _+_}
+use mathlib.Core.Bool.{Bool, cond}
 use mathlib.Core.List.{List, [], _∷_, _++_}
 use lib.Dec.{eqb}
-use lib.ListN.{length, take}
-use Rattle.common.specs.Stores.{Wrote}
-use Rattle.rules.specs.declared.Refusal.the-variants.{PageMeasure, StreamLength}
+use lib.ListN.{length}
 use Rattle.rules.specs.declared.State.{State}
 use Rattle.rules.specs.declared.Ran.{Ran}
-use Rattle.rules.specs.Measure.{allowed, measureOf, pageBytes}
+use Rattle.rules.specs.Measure.{measureOf, pageBytes}
 use Rattle.rules.specs.States.{afresh}
 use Rattle.rules.specs.Acts.{world}
 use Rattle.rules.specs.Run.{Outcome, answer, enough}
-use Rattle.rules.specs.Report.{line, SIZE, lastLines}
+use Rattle.rules.specs.Report.{lastLines}
 use Rattle.printing.specs.Left.{counted, printed}
 use Rattle.sheets.specs.declared.Sheet.{Sheet}
-use Rattle.sheets.specs.declared.Beginning.{Beginning}
-use Rattle.sheets.specs.Sheets.{pbms, tooLong, isRefused, refusedLine, jobPages, jobLines}
-
--- what is promised of a room in which a text was written from the start on, r the place behind it
-pub record Holds (most : ℕ) (text before after : List ℕ) (r : ℕ) : Type 0 where
-  -- it was written as far as there is room, and nothing else
-  pub wrote : Wrote before 0 text after r
-  -- in a room of the longest it is there whole
-  pub whole : most ≤ length before → take r after ≡ text
-
--- the longest head: two numbers of twenty digits
-abbrev pub longestHead : ℕ
-longestHead = 45
-
--- the longest lines of a step, those of the last: PAGE (47) and END (88), all numbers of twenty digits
-abbrev pub longestLines : ℕ
-longestLines = 135
-
--- ---- before the first step: SIZE, and the refusal if there is one
-abbrev pub firstLines : ℕ → ℕ → List ℕ → List ℕ
-firstLines W H s = line SIZE (W ∷ H ∷ []) (cond (not (allowed W H)) (refusedLine PageMeasure) (cond (tooLong s) (refusedLine StreamLength) []))
-
-pub record Begins (W H : ℕ) (s room : List ℕ) (r : Beginning) (after : List ℕ) : Type 0 where
-  pub refused : r .refused ≡ isRefused W H s
-  pub holds : Holds longestLines (firstLines W H s) room after (r .end)
+use Rattle.opening.specs.Opening.{Holds, longestLines, firstLines, isRefused}
+use Rattle.sheets.specs.Sheets.{pbms, jobPages, jobLines}
 
 -- ---- a step
 -- it is allowed more items than any job has: it stops at a finding, a page end or the end of the job

@@ -1,8 +1,8 @@
--- `sheets::begin` meets its contract. Assumes nothing.
+-- `opening::begin` meets its contract. Assumes nothing.
 use borrow.Author.Needs.{needs}
-use Rattle.sheets.proofs.begin.Statement.{statement}
-use Rattle.sheets.proofs.begin.Tie as tie
-use Rattle.sheets.proofs.Holding.{begins-no-page, begins-too-long, begins-drawn}
+use Rattle.opening.proofs.begin.Statement.{statement}
+use Rattle.opening.proofs.begin.Tie as tie
+use Rattle.opening.proofs.Holding.{begins-no-page, begins-too-long, begins-drawn}
 
 write-size-requires : tie.Need-write-size-requires
 write-size-requires c κs = search needs

@@ -1,8 +1,8 @@
--- `sheets::write_head` meets its contract. The facts are named by their places, since a search does not reach through so many. Assumes nothing.
+-- `opening::write_head` meets its contract. The facts are named by their places, since a search does not reach through so many. Assumes nothing.
 use borrow.Author.Needs.{needs}
-use Rattle.sheets.proofs.write_head.Statement.{statement}
-use Rattle.sheets.proofs.write_head.Tie as tie
-use Rattle.sheets.proofs.Holding.{wrote-head}
+use Rattle.opening.proofs.write_head.Statement.{statement}
+use Rattle.opening.proofs.write_head.Tie as tie
+use Rattle.opening.proofs.Holding.{wrote-head}
 
 slice-aggregate-write-word : tie.Need-slice-aggregate-write-word
 slice-aggregate-write-word c = search needs

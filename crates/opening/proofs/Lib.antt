@@ -1,0 +1,2 @@
+-- The laws of what is written before the pages.
+pub mod Holding
