@@ -47,6 +47,7 @@ addEventListener('load', () => {
       const picture = box(one.parentNode.querySelector('.picture'));
       return [one.id, one.getAttribute('href'), (box(one).top - picture.top) / picture.height, picture.left - box(one).right];
     }),
+    cut: all('.mark span').filter(one => box(one).left < box(one.closest('.sheet')).left).map(one => one.innerText),
     links: links.length,
     lost: links.filter(one => !/^#./.test(one) || !document.getElementById(one.slice(1))),
     twice: ids.filter((one, at) => ids.indexOf(one) !== at),
@@ -111,6 +112,7 @@ class Records:
         right(f"{what}: the window's width", width, facts["width"])
         right(f"{what}: scrolls sideways", False, facts["scrolled"] > width)
         right(f"{what}: links that lead nowhere", [], facts["lost"])
+        right(f"{what}: numbers of marks that are cut", [], facts["cut"])
         right(f"{what}: names given twice", [], facts["twice"])
         right(f"{what}: from outside", [], facts["outside"] + facts["fetched"])
         right(f"{what}: scripts and styles", "STYLE SCRIPT", facts["scripts"])  # the script is the probe's
@@ -149,6 +151,7 @@ def damaged_curve(records):
         right("pictures", [[True, 2552, 3304], [True, 638, 826], [True, 319, 413]], facts["pictures"])
         right("the picture that is seen, dot for dot", [["narrow", 319, 413] if width == 400 else ["fit", 638, 826]], facts["seen"])
         right("as many rows as findings", [f"finding-{number}" for number in range(1, 10)], facts["rows"])
+        right("links: four to the parts, three of the page, a mark and a line for each finding", 4 + 3 + 9 + 9, facts["links"])
         right("counts by number", [0, 0, 0, 0, 0, 0, 9], facts["kinds"])
         right("marks and what they lead to", [(f"mark-{n}", f"#finding-{n}") for n in range(1, 10)], [tuple(one[:2]) for one in facts["marks"]])
         right("links back", [f"#mark-{n}" for n in range(1, 10)], re.findall(r'<td data-label="On the page"><a href="(#mark-\d+)">', text))
@@ -221,14 +224,15 @@ def many_findings(records):
 def many_pages(records):
     """Damaged rows on a late page: its picture is there, the first rows are marked, and what is left out is said."""
     right = records.checks.right
-    job = b"A\f" * 60 + b"\x1b*b2M" + b"\x1b*b1W\x05" * 250 + b"\f"
+    job = b"A\f" * 60 + b"\x1b*b2M" + b"\x1b*b1W\x05" * 350 + b"\f"
     text = records.make("pages.pcl", job, 1, "640", "800")
     facts = records.shown("pages", text, 1400)
+    records.shown("pages", text, 400)
     right("pages: pictures", 40, len(facts["seen"]))
     right("pages: the damaged page", True, 'id="page-61"' in text)
-    right("pages: marks", 200, len(facts["marks"]))
-    right("pages: rows", 250, len(facts["rows"]))
-    for said in ("Of 61 pages 40 are shown here", "200 of 250 damaged rows, the first ones, are marked in the margins."):
+    right("pages: marks", 300, len(facts["marks"]))
+    right("pages: rows", 350, len(facts["rows"]))
+    for said in ("Of 61 pages 40 are shown here", "300 of 350 damaged rows, the first ones, are marked in the margins."):
         right("pages: said", True, said in facts["text"])
 
 

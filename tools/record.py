@@ -23,7 +23,7 @@ import recordhtml
 ROOT = os.path.dirname(os.path.dirname(os.path.abspath(__file__)))
 # What a record holds at most. What it leaves out, it says.
 PICTURES = 40
-MARKS = 200
+MARKS = 300
 FORM_FEED = b"\f"
 # The widest picture, in dots of the screen, in a wide window and in one of 400.
 ROOM = {"fit": 1050, "narrow": 330}

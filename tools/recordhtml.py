@@ -95,10 +95,10 @@ def labels(rows, width):
 
 
 def from_to(group):
-    """The numbers of these findings: 4, or 4–6 if none is left out, else 4…9."""
+    """The numbers of these findings: 4, or 4–6 if none is left out, else 4…9. A narrow window has room for the first."""
     first, last = group[0] + 1, group[-1] + 1
     dash = "–" if last - first + 1 == len(group) else "…"
-    return f"{first}{dash}{last}" if last > first else str(first)
+    return f"{first}<i>{dash}{last}</i>" if last > first else str(first)
 
 
 def mark(facts, y, index, label):
