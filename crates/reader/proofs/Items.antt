@@ -27,7 +27,9 @@ use Rattle.reader.specs.declared.ReadItem.{ReadItem}
 use Rattle.letters.specs.declared.Ending.{Ending}
 use Rattle.letters.specs.declared.Ending.the-variants.{Letter, NoLetter}
 use Rattle.letters.specs.Letters.{asked, ending}
-use Rattle.reader.specs.Items.{readTo, upTo}
+use Rattle.reader.specs.declared.Begun.{Begun}
+use Rattle.reader.specs.declared.Begun.the-variants as begun
+use Rattle.reader.specs.Items.{readTo, upTo, Begins}
 
 -- ---- places
 
@@ -116,6 +118,10 @@ module _ (s : List ℕ) (at f g : ℕ) (v : Value) (h : at < length s) (x : Endi
 pub through : (n : ℕ) (w x : Reading) (r : ReadItem) → r ≡ upTo n w → w ≡ x → r ≡ upTo n x
 through n w x r e f = e ∙ ap (upTo n) f
 
+-- a sequence is read as the rules read it
+pub gives-same : (n : ℕ) (w x : Reading) → w ≡ x → upTo n w ≡ upTo n x
+gives-same n w x e = ap (upTo n) e
+
 module _ (s : List ℕ) (at : ℕ) (x : Reading) (h : at < length s) where
   -- a byte that cannot stand
   pub gives-broken : cannotStand (getD s at 0 ∷ drop (at + 1) s) ≡ x → record { item = found.Broken CannotStand; sequence = Closed; next = at } ≡ upTo (length s) x
@@ -137,7 +143,7 @@ module _ (s : List ℕ) (at : ℕ) (x : Reading) (h : at < length s) where
   pub gives-two : (b : ℕ) → reading (rule.two b) Closed (drop (at + 1) s) ≡ x → record { item = found.Two b; sequence = Closed; next = at + 1 } ≡ upTo (length s) x
   gives-two b e = ap (λ (n : ℕ). readTo n (reading (rule.two b) Closed (drop (at + 1) s))) ends-next ∙ ap (upTo (length s)) e
 
-pub ruleset gives = (through, gives-broken, gives-text, gives-code, gives-two)
+pub ruleset gives = (through, gives-same, gives-broken, gives-text, gives-code, gives-two)
 
 -- the value may begin with the byte that is no group
 pub parameter-cut : (f g : ℕ) (s : List ℕ) (at : ℕ) → at < length s → parameter f g (drop at s) ≡ parameter f g (getD s at 0 ∷ drop (at + 1) s)
@@ -155,3 +161,13 @@ unfolding read
 text-high s at h l u =
     gives-text s at (read Closed (drop at s)) h (getD s at 0)
     (rw (cut s at h, ne-eqb (getD s at 0) 27 (λ e. omega arith), within-over 32 126 (getD s at 0) (omega arith), within-in 128 255 (getD s at 0) l (omega arith)))
+
+module _ (s : List ℕ) (at : ℕ) (q : Sequence) (h : at < length s) where
+  -- the beginning of an item where no sequence is open
+  pub begun-afresh : (b : Begun) → q ≡ Closed → Begins s (read Closed (drop at s)) b → Begins s (read q (drop at s)) b
+  begun-afresh b e f = rw e f
+
+  -- in an open sequence
+  pub begun-open : (first group : ℕ) → q ≡ Open first group → Begins s (read q (drop at s)) (begun.Sequence first group at)
+  unfolding read
+  begun-open first group e = rw e (refl, omega arith)

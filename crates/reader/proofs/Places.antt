@@ -24,7 +24,9 @@ use Rattle.theorems.proofs.Reading.{Bounded, HoldsLow, read-sane}
 use Rattle.reader.specs.declared.Item.{Item}
 use Rattle.reader.specs.declared.Item.the-variants as found
 use Rattle.reader.specs.declared.ReadItem.{ReadItem}
-use Rattle.reader.specs.Items.{itemTo, readTo, upTo, readAt, itemIn, fromOf, toOf, heldSize, sizeIn, ItemAt}
+use Rattle.reader.specs.declared.Begun.{Begun}
+use Rattle.reader.specs.declared.Begun.the-variants as begun
+use Rattle.reader.specs.Items.{Begins, itemTo, readTo, upTo, readAt, itemIn, fromOf, toOf, heldSize, sizeIn, ItemAt}
 
 -- ---- payload and what is left
 
@@ -193,11 +195,15 @@ module _ (s : List ℕ) (at : ℕ) (q : Sequence) where
       let d = length-drop at s in
       item-is r (e ∙ ap (λ (n : ℕ). readTo n (read q (drop at s))) (omega arith))
 
-  -- where no sequence is open
-  pub item-afresh : (r : ReadItem) → at < length s → q ≡ Closed → r ≡ upTo (length s) (read Closed (drop at s)) → ItemAt s at q r
-  item-afresh r h e f = item-there r h (f ∙ ap (λ (o : Sequence). upTo (length s) (read o (drop at s))) (sym e))
+  -- an item that was read as a whole
+  pub item-whole : (b : Begun) (r : ReadItem) → at < length s → Begins s (read q (drop at s)) b → b ≡ begun.Read r → ItemAt s at q r
+  item-whole b r h f e = item-there r h (rw e at (f .0))
 
-  -- in an open sequence
-  pub item-open : (r : ReadItem) (first group : ℕ) → at < length s → q ≡ Open first group → r ≡ upTo (length s) (parameter first group (drop at s)) → ItemAt s at q r
-  unfolding read
-  item-open r first group h e f = item-there r h (f ∙ ap (λ (o : Sequence). upTo (length s) (read o (drop at s))) (sym e))
+  -- a sequence whose value was read
+  pub item-valued : (b : Begun) (first group from : ℕ) (r : ReadItem) → at < length s → Begins s (read q (drop at s)) b → b ≡ begun.Sequence first group from
+      → r ≡ upTo (length s) (parameter first group (drop from s)) → ItemAt s at q r
+  item-valued b first group from r h f e j = item-there r h (j ∙ rw e at (f .0))
+
+-- its value begins in the stream
+pub value-inside : (s : List ℕ) (x : Reading) (b : Begun) (first group from : ℕ) → Begins s x b → b ≡ begun.Sequence first group from → from ≤ length s
+value-inside s x b first group from f e = rw e at (f .1)

@@ -8,10 +8,12 @@ use Rattle.rules.specs.declared.Command.{Command}
 use Rattle.rules.specs.declared.Command.the-variants.{Valued, Method, Print, Row, Unknown}
 use Rattle.rules.specs.Number.{sizeOf}
 use Rattle.rules.specs.Items as rule
-use Rattle.rules.specs.Items.{Reading, read}
+use Rattle.rules.specs.Items.{Reading, parameter, read}
 use Rattle.reader.specs.declared.Item.{Item}
 use Rattle.reader.specs.declared.Item.the-variants as found
 use Rattle.reader.specs.declared.ReadItem.{ReadItem}
+use Rattle.reader.specs.declared.Begun.{Begun}
+use Rattle.reader.specs.declared.Begun.the-variants as begun
 
 -- an item that ends at n: its payload is what lies before n
 abbrev pub itemTo : ℕ → rule.Item → Item
@@ -28,6 +30,20 @@ readTo n r = record { item = itemTo n (r .item); sequence = r .sequence; next = 
 -- what is read of a stream of n bytes: it ends where what is left begins
 abbrev pub upTo : ℕ → Reading → ReadItem
 upTo n r = readTo (n - length (r .rest)) r
+
+-- what a beginning comes to in the stream s: of a sequence a value and what ends it are still to be read
+abbrev pub begunIn : List ℕ → Begun → ReadItem
+begunIn s (begun.Sequence f g from) = upTo (length s) (parameter f g (drop from s))
+begunIn s (begun.Read r) = r
+
+-- where that value begins
+abbrev pub valueFrom : Begun → ℕ
+valueFrom (begun.Sequence f g from) = from
+valueFrom (begun.Read r) = 0
+
+-- b is the beginning of what the rules read, and lies in the stream
+abbrev pub Begins : List ℕ → Reading → Begun → Type 0
+Begins s x b = (begunIn s b ≡ upTo (length s) x) × (valueFrom b ≤ length s)
 
 -- the item at a place of the stream, read with the sequence that is open there
 unfoldable pub readAt : List ℕ → ℕ → Sequence → ReadItem

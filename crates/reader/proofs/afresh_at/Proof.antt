@@ -21,25 +21,25 @@ escape-at-requires c κs = search needs
 
 returns : tie.Need-returns
 unfolding read
-returns c = search (gives, at-cons₁ read, hit, miss, in-cond, under-cond, over-cond, or-cond, under-key, over-key, needs) depth 12
+returns c = (search (gives, at-cons₁ read, hit, miss, in-cond, under-cond, over-cond, or-cond, under-key, over-key, needs) depth 12, search needs)
 
 returns-2 : tie.Need-returns-2
 unfolding read
-returns-2 c = search (gives, at-cons₁ read, hit, miss, in-cond, under-cond, over-cond, or-cond, under-key, over-key, needs) depth 12
+returns-2 c = (search (gives, at-cons₁ read, hit, miss, in-cond, under-cond, over-cond, or-cond, under-key, over-key, needs) depth 12, search needs)
 
 returns-3 : tie.Need-returns-3
 returns-3 c =
     let a = c .before .before .before .before .before .before .args in
     let u : getD (a .s .now) (a .at) 0 < 256 = omega (arith, c .before .before .before .before .shared-slice-known2 .given (a .at)) in
-    search (text-high, needs)
+    (search (text-high, needs), search needs)
 
 returns-4 : tie.Need-returns-4
 unfolding read
-returns-4 c = search (gives, at-cons₁ read, hit, miss, in-cond, under-cond, over-cond, or-cond, under-key, over-key, needs) depth 12
+returns-4 c = (search (gives, at-cons₁ read, hit, miss, in-cond, under-cond, over-cond, or-cond, under-key, over-key, needs) depth 12, search needs)
 
 returns-5 : tie.Need-returns-5
 unfolding read
-returns-5 c = search (gives, at-cons₁ read, hit, miss, in-cond, under-cond, over-cond, or-cond, under-key, over-key, needs) depth 12
+returns-5 c = (search (gives, at-cons₁ read, hit, miss, in-cond, under-cond, over-cond, or-cond, under-key, over-key, needs) depth 12, search needs)
 
 pub afresh-at-spec : {M : Type 1} → statement M
 afresh-at-spec =

@@ -12,7 +12,7 @@ ends-inside-requires c κs = search needs
 
 returns : tie.Need-returns
 unfolding behindEscape
-returns c = search (gives, at-cons behindEscape, at-end behindEscape, in-cond, under-cond, over-cond, needs) depth 9
+returns c = (search (gives, at-cons behindEscape, at-end behindEscape, in-cond, under-cond, over-cond, needs) depth 9, search needs)
 
 shared-slice-read-b : tie.Need-shared-slice-read-b
 shared-slice-read-b c = search needs
@@ -25,19 +25,19 @@ group-at-requires c κs = search needs
 
 returns-2 : tie.Need-returns-2
 unfolding behindEscape
-returns-2 c = search (gives, at-cons behindEscape, at-end behindEscape, in-cond, under-cond, over-cond, needs) depth 9
+returns-2 c = (search (gives, at-cons behindEscape, at-end behindEscape, in-cond, under-cond, over-cond, needs) depth 9, search needs)
 
 returns-3 : tie.Need-returns-3
 unfolding behindEscape
-returns-3 c = search (gives, at-cons behindEscape, at-end behindEscape, in-cond, under-cond, over-cond, needs) depth 9
+returns-3 c = (search (gives, at-cons behindEscape, at-end behindEscape, in-cond, under-cond, over-cond, needs) depth 9, search needs)
 
 returns-4 : tie.Need-returns-4
 unfolding behindEscape
-returns-4 c = search (gives, at-cons behindEscape, at-end behindEscape, in-cond, under-cond, over-cond, needs) depth 9
+returns-4 c = (search (gives, at-cons behindEscape, at-end behindEscape, in-cond, under-cond, over-cond, needs) depth 9, search needs)
 
 returns-5 : tie.Need-returns-5
 unfolding behindEscape
-returns-5 c = search (gives, at-cons behindEscape, at-end behindEscape, in-cond, under-cond, over-cond, needs) depth 9
+returns-5 c = (search (gives, at-cons behindEscape, at-end behindEscape, in-cond, under-cond, over-cond, needs) depth 9, search needs)
 
 pub escape-at-spec : {M : Type 1} → statement M
 escape-at-spec =

@@ -1,5 +1,6 @@
 -- `reader::group_at` meets its contract. Assumes nothing.
 use mathlib.Core.Logic.{⊎-elim}
+use native.Mathlib.Omega.{arith}
 use borrow.Author.Needs.{needs}
 use Rattle.common.proofs.Places.{at-cons₁, at-end₁}
 use Rattle.common.proofs.Choices.{in-cond, under-cond, over-cond}
@@ -13,27 +14,25 @@ ends-inside-requires c κs = search needs
 
 returns : tie.Need-returns
 unfolding group
-returns c = search (gives, parameter-cut, at-cons₁ group, at-end₁ group, in-cond, under-cond, over-cond, needs) depth 9
+returns c = (search (gives, parameter-cut, at-cons₁ group, at-end₁ group, in-cond, under-cond, over-cond, needs) depth 9, omega arith)
 
 shared-slice-read-b : tie.Need-shared-slice-read-b
 shared-slice-read-b c = search needs
 
-add-parameter-at : tie.Need-add-parameter-at
-add-parameter-at c = search needs
-
-parameter-at-requires : tie.Need-parameter-at-requires
-parameter-at-requires c κs = search needs
-
-parameter-at-requires-2 : tie.Need-parameter-at-requires-2
-parameter-at-requires-2 c κs = search needs
+add-t12 : tie.Need-add-t12
+add-t12 c = search needs
 
 returns-2 : tie.Need-returns-2
 unfolding group
-returns-2 c = search (gives, parameter-cut, at-cons₁ group, at-end₁ group, in-cond, under-cond, over-cond, needs) depth 9
+returns-2 c = (search (gives, parameter-cut, at-cons₁ group, at-end₁ group, in-cond, under-cond, over-cond, needs) depth 9, search needs)
 
 returns-3 : tie.Need-returns-3
 unfolding group
-returns-3 c = ⊎-elim (λ w. search (gives, parameter-cut, at-cons₁ group, at-end₁ group, in-cond, under-cond, over-cond, needs) depth 9) (λ w. search (gives, parameter-cut, at-cons₁ group, at-end₁ group, in-cond, under-cond, over-cond, needs) depth 9) (c .before .if2 .came)
+returns-3 c = (search (gives, parameter-cut, at-cons₁ group, at-end₁ group, in-cond, under-cond, over-cond, needs) depth 9, search needs)
+
+returns-4 : tie.Need-returns-4
+unfolding group
+returns-4 c = (search (gives, parameter-cut, at-cons₁ group, at-end₁ group, in-cond, under-cond, over-cond, needs) depth 9, search needs)
 
 pub group-at-spec : {M : Type 1} → statement M
 group-at-spec =
@@ -42,8 +41,7 @@ group-at-spec =
     ends-inside-requires
     returns
     shared-slice-read-b
-    add-parameter-at
-    parameter-at-requires
-    parameter-at-requires-2
+    add-t12
     returns-2
-    returns-3)
+    returns-3
+    returns-4)
