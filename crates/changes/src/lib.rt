@@ -1,10 +1,10 @@
-// Paper 01, "Commands": what a command with a value changes, where that is little: the cursor, the layout, the raster state. The core, which is
-// large with its stack and its seed row, is not handed over; who has it sets what is told. Nothing is refused, and a command that is barred, or that
-// changes more, is Other. A measure within 4,800 by 6,800 dots is asked for, so that lengths fit. Where a function is handed a number
-// and no value, it is the number that the rules make of the value, and its promise is for each such value.
+// Paper 01, "Commands": what a command with a value changes, and the finding that bars it, which is seen before anything is changed. The core,
+// which is large with its stack and its seed row, is not handed over; who has it sets what is told. Nothing is refused: a barred command
+// tells its finding. A measure within 4,800 by 6,800 dots is asked for, so that lengths fit, and a depth that the stack holds. Where a function is
+// handed a number and no value, it is the number that the rules make of the value, and its promise is for each such value.
 ghost use mathlib.Core.Path.{_≡_};
 ghost use mathlib.Core.Bool.{cond};
-ghost use Prim.Native.Nat.{_+_, _*_, _-_, _/_, _≤_, _<_, min};
+ghost use Prim.Native.Nat.{ℕ, _+_, _*_, _-_, _/_, _≤_, _<_, min};
 ghost use lib.Dec.{eqb};
 ghost use Rattle.common.specs.Choice.{oneOf};
 ghost use Rattle.rules.specs.declared.Measure.{Measure};
@@ -12,11 +12,12 @@ ghost use Rattle.rules.specs.declared.Value.{Value};
 ghost use Rattle.rules.specs.declared.Spot.{Spot};
 ghost use Rattle.rules.specs.declared.Layout.{Layout};
 ghost use Rattle.rules.specs.declared.Raster.{Raster};
-ghost use Rattle.rules.specs.declared.Kind.the-variants.{LeftMargin, RightMargin, TopMargin, Vmi, LinesPerInch, Hmi, Termination, Resolution, StartRaster, EndRaster, SkipRows};
+ghost use Rattle.rules.specs.declared.Kind.the-variants.{LeftMargin, RightMargin, TopMargin, Vmi, LinesPerInch, Hmi, Termination, PushPop, Resolution, StartRaster, EndRaster, ResetRaster, SkipRows};
 ghost use Rattle.rules.specs.Measure.{LW, inch};
 ghost use Rattle.rules.specs.Number.{sizeOf, wholePart};
 ghost use Rattle.rules.specs.Effects.{target, lineRates, displacement};
 ghost use Rattle.changes.specs.Changed.{acrossSpot, downSpot, Changed};
+use rules::Finding;
 use rules::Kind;
 use rules::Layout;
 use rules::Measure;
@@ -36,13 +37,16 @@ use state::width;
 use values::size_of;
 use values::whole_part;
 
-// What a command changes, and nothing else: the cursor; the cursor and the layout; the raster state; the same with the seed row zeroed.
+// What a command changes, and nothing else.
 pub enum Change {
-    To(Spot),
-    Laid(Spot, Layout),
-    Drawn(Raster),
-    Fresh(Raster),
-    Other,
+    To(Spot), // the cursor
+    Laid(Spot, Layout), // the cursor and the layout
+    Drawn(Raster), // the raster state
+    Fresh(Raster), // the same, and the seed row is zeroed
+    Reset(Raster), // the same, and the row method is 0
+    Pushed, // the cursor is put on the stack
+    Popped, // and taken off it
+    Barred(Finding), // nothing
 }
 
 // A displacement: size times unit, cut to whole units.
@@ -62,7 +66,7 @@ fn moved(now: u32, back: bool, by: u64) -> u64
 }
 
 // Where a position lies: an absolute one from its base, a relative one from where the cursor is.
-pub fn target(base: u64, now: u32, unit: u32, v: Value) -> u64
+fn target(base: u64, now: u32, unit: u32, v: Value) -> u64
     requires { ⌜ base < 8589934592 ⌝ }
     ensures { λ r. ⌜ r ≡ target base now unit v ⌝ }
 {
@@ -73,7 +77,7 @@ pub fn target(base: u64, now: u32, unit: u32, v: Value) -> u64
 }
 
 // The whole part of the value, times a unit.
-pub fn times(v: Value, unit: u32) -> u64
+fn times(v: Value, unit: u32) -> u64
     ensures { λ r. ⌜ r ≡ wholePart v * unit ⌝ }
 {
     (whole_part(v) as u64) * (unit as u64)
@@ -87,7 +91,7 @@ fn columns(v: Value) -> u64
 }
 
 // Where &a#M sets the right margin, no more than LW.
-pub fn new_right(g: Measure, v: Value, hmi: u32) -> u32
+fn new_right(g: Measure, v: Value, hmi: u32) -> u32
     requires { ⌜ (g .wide ≤ 600) × (g .high ≤ 6800) ⌝ }
     ensures { λ r. ⌜ r ≡ min ((wholePart v + 1) * hmi) (LW g) ⌝ }
 {
@@ -96,7 +100,7 @@ pub fn new_right(g: Measure, v: Value, hmi: u32) -> u32
 }
 
 // Whether &l#D takes this number of lines.
-pub fn is_line_rate(n: u32) -> bool
+fn is_line_rate(n: u32) -> bool
     ensures { λ r. ⌜ r ≡ oneOf lineRates n ⌝ }
 {
     match n {
@@ -106,7 +110,7 @@ pub fn is_line_rate(n: u32) -> bool
 }
 
 // The height of n rows.
-pub fn rows_high(n: u32, resolution: u16) -> u64
+fn rows_high(n: u32, resolution: u16) -> u64
     requires { ⌜ n ≤ 429496 ⌝ }
     ensures { λ r. ⌜ (r ≡ n * (inch / resolution)) × (r ≤ 3092371200) ⌝ }
 {
@@ -134,10 +138,10 @@ fn down_at(g: Measure, base: u64, unit: u32, v: Value, at: Spot) -> Spot
 // &a#L: the left margin set; x left of L moves to L.
 fn left_at(g: Measure, left: u64, at: Spot, l: Layout) -> Change
     requires { ⌜ (g .wide ≤ 600) × (g .high ≤ 6800) ⌝ }
-    ensures { λ r. ⌜ ((v : Value) (q : Raster) → left ≡ wholePart v * l .hmi → Changed g LeftMargin v at l q r) ⌝ }
+    ensures { λ r. ⌜ ((v : Value) (q : Raster) (deep : ℕ) → left ≡ wholePart v * l .hmi → Changed g LeftMargin v at l q deep r) ⌝ }
 {
     if (l.right as u64) <= left {
-        return Change::Other;
+        return Change::Barred(Finding::NotAllowed);
     }
     let x = into_width(g, most(at.x as u64, left));
     let mut m = l;
@@ -148,10 +152,10 @@ fn left_at(g: Measure, left: u64, at: Spot, l: Layout) -> Change
 // &a#M: the right margin set; x right of R moves to R.
 fn right_at(g: Measure, right: u32, at: Spot, l: Layout) -> Change
     requires { ⌜ (g .wide ≤ 600) × (g .high ≤ 6800) ⌝ }
-    ensures { λ r. ⌜ ((v : Value) (q : Raster) → right ≡ min ((wholePart v + 1) * l .hmi) (LW g) → Changed g RightMargin v at l q r) ⌝ }
+    ensures { λ r. ⌜ ((v : Value) (q : Raster) (deep : ℕ) → right ≡ min ((wholePart v + 1) * l .hmi) (LW g) → Changed g RightMargin v at l q deep r) ⌝ }
 {
     if right <= l.left {
-        return Change::Other;
+        return Change::Barred(Finding::NotAllowed);
     }
     let x = into_width(g, least(at.x as u64, right as u64));
     let mut m = l;
@@ -162,25 +166,25 @@ fn right_at(g: Measure, right: u32, at: Spot, l: Layout) -> Change
 // &l#E: the top margin set; y stays.
 fn top_at(g: Measure, top: u64, at: Spot, l: Layout) -> Change
     requires { ⌜ (g .wide ≤ 600) × (g .high ≤ 6800) ⌝ }
-    ensures { λ r. ⌜ ((v : Value) (q : Raster) → top ≡ wholePart v * l .vmi → Changed g TopMargin v at l q r) ⌝ }
+    ensures { λ r. ⌜ ((v : Value) (q : Raster) (deep : ℕ) → top ≡ wholePart v * l .vmi → Changed g TopMargin v at l q deep r) ⌝ }
 {
     if l.vmi == 0 {
-        return Change::Other;
+        return Change::Barred(Finding::NotAllowed);
     }
     if in_height(g, top) {
         let mut m = l;
         m.top = top as u32;
         return Change::Laid(at, m);
     }
-    Change::Other
+    Change::Barred(Finding::NotAllowed)
 }
 
 // &l#C: VMI set, for a value of at most 336.
 fn vmi_at(size: u32, at: Spot, l: Layout) -> Change
-    ensures { λ r. ⌜ ((g : Measure) (v : Value) (q : Raster) → size ≡ sizeOf v → Changed g Vmi v at l q r) ⌝ }
+    ensures { λ r. ⌜ ((g : Measure) (v : Value) (q : Raster) (deep : ℕ) → size ≡ sizeOf v → Changed g Vmi v at l q deep r) ⌝ }
 {
     if 3360000 < size {
-        return Change::Other;
+        return Change::Barred(Finding::NotAllowed);
     }
     let n = size * 150 / 10000;
     let mut m = l;
@@ -190,7 +194,7 @@ fn vmi_at(size: u32, at: Spot, l: Layout) -> Change
 
 // &l#D: VMI set to so many lines to an inch.
 fn lines_at(n: u32, at: Spot, l: Layout) -> Change
-    ensures { λ r. ⌜ ((g : Measure) (v : Value) (q : Raster) → n ≡ wholePart v → Changed g LinesPerInch v at l q r) ⌝ }
+    ensures { λ r. ⌜ ((g : Measure) (v : Value) (q : Raster) (deep : ℕ) → n ≡ wholePart v → Changed g LinesPerInch v at l q deep r) ⌝ }
 {
     if is_line_rate(n) {
         let apart = inch_over(n);
@@ -198,12 +202,12 @@ fn lines_at(n: u32, at: Spot, l: Layout) -> Change
         m.vmi = apart;
         return Change::Laid(at, m);
     }
-    Change::Other
+    Change::Barred(Finding::NotAllowed)
 }
 
 // &k#H: HMI set.
 fn hmi_at(size: u32, at: Spot, l: Layout) -> Change
-    ensures { λ r. ⌜ ((g : Measure) (v : Value) (q : Raster) → size ≡ sizeOf v → Changed g Hmi v at l q r) ⌝ }
+    ensures { λ r. ⌜ ((g : Measure) (v : Value) (q : Raster) (deep : ℕ) → size ≡ sizeOf v → Changed g Hmi v at l q deep r) ⌝ }
 {
     let n = (size as u64 * 60 / 10000) as u32;
     let mut m = l;
@@ -213,10 +217,10 @@ fn hmi_at(size: u32, at: Spot, l: Layout) -> Change
 
 // &k#G: the line termination set.
 fn termination_at(n: u32, at: Spot, l: Layout) -> Change
-    ensures { λ r. ⌜ ((g : Measure) (v : Value) (q : Raster) → n ≡ wholePart v → Changed g Termination v at l q r) ⌝ }
+    ensures { λ r. ⌜ ((g : Measure) (v : Value) (q : Raster) (deep : ℕ) → n ≡ wholePart v → Changed g Termination v at l q deep r) ⌝ }
 {
     if 3 < n {
-        return Change::Other;
+        return Change::Barred(Finding::NotAllowed);
     }
     let t = n as u8;
     let mut m = l;
@@ -224,20 +228,40 @@ fn termination_at(n: u32, at: Spot, l: Layout) -> Change
     Change::Laid(at, m)
 }
 
+// &f#S: 0 push, 1 pop, else 4; 5 where the stack is full or empty.
+fn push_pop(n: u32, depth: usize) -> Change
+    requires { ⌜ depth ≤ 20 ⌝ }
+    ensures { λ r. ⌜ ((g : Measure) (v : Value) (p : Spot) (l : Layout) (q : Raster) → n ≡ wholePart v → Changed g PushPop v p l q depth r) ⌝ }
+{
+    if n == 0 {
+        if depth < 20 {
+            return Change::Pushed;
+        }
+        return Change::Barred(Finding::StackLimit);
+    }
+    if n == 1 {
+        if 0 < depth {
+            return Change::Popped;
+        }
+        return Change::Barred(Finding::StackLimit);
+    }
+    Change::Barred(Finding::NotAllowed)
+}
+
 // *t#R: the resolution set, unless raster is started.
 fn resolution_at(n: u32, r: Raster) -> Change
-    ensures { λ q. ⌜ ((g : Measure) (v : Value) (p : Spot) (l : Layout) → n ≡ wholePart v → Changed g Resolution v p l r q) ⌝ }
+    ensures { λ q. ⌜ ((g : Measure) (v : Value) (p : Spot) (l : Layout) (deep : ℕ) → n ≡ wholePart v → Changed g Resolution v p l r deep q) ⌝ }
 {
-    if r.started {
-        return Change::Other;
-    }
     if is_resolution(n) {
+        if r.started {
+            return Change::Barred(Finding::NotNow);
+        }
         let dots = n as u16;
         let mut set = r;
         set.resolution = dots;
         return Change::Drawn(set);
     }
-    Change::Other
+    Change::Barred(Finding::NotAllowed)
 }
 
 // The graphics margin that *r#A sets: 0 or x.
@@ -249,13 +273,13 @@ fn margin_at(n: u32, x: u32) -> u32
 
 // *r#A: raster started.
 fn start_at(n: u32, at: Spot, r: Raster) -> Change
-    ensures { λ q. ⌜ ((g : Measure) (v : Value) (l : Layout) → n ≡ wholePart v → Changed g StartRaster v at l r q) ⌝ }
+    ensures { λ q. ⌜ ((g : Measure) (v : Value) (l : Layout) (deep : ℕ) → n ≡ wholePart v → Changed g StartRaster v at l r deep q) ⌝ }
 {
     if 1 < n {
-        return Change::Other;
+        return Change::Barred(Finding::NotAllowed);
     }
     if r.started {
-        return Change::Other;
+        return Change::Barred(Finding::NotNow);
     }
     let margin = margin_at(n, at.x);
     let resolution = r.resolution;
@@ -268,29 +292,49 @@ fn start_at(n: u32, at: Spot, r: Raster) -> Change
 
 // *rB: raster ended.
 fn end_at(r: Raster) -> Change
-    ensures { λ q. ⌜ ((g : Measure) (v : Value) (p : Spot) (l : Layout) → Changed g EndRaster v p l r q) ⌝ }
+    ensures { λ q. ⌜ ((g : Measure) (v : Value) (p : Spot) (l : Layout) (deep : ℕ) → Changed g EndRaster v p l r deep q) ⌝ }
 {
     let mut ended = r;
     ended.started = false;
     Change::Drawn(ended)
 }
 
+// *rC: raster ended, the graphics margin 0, the seed row zeroed, the row method 0.
+fn reset_at(r: Raster) -> Change
+    ensures { λ q. ⌜ ((g : Measure) (v : Value) (p : Spot) (l : Layout) (deep : ℕ) → Changed g ResetRaster v p l r deep q) ⌝ }
+{
+    let resolution = r.resolution;
+    Change::Reset(Raster {
+        resolution,
+        started: false,
+        margin: 0,
+    })
+}
+
 // *b#Y: the cursor n rows further down, if raster is started.
 fn skip_at(g: Measure, n: u32, at: Spot, r: Raster) -> Change
     requires { ⌜ (g .wide ≤ 600) × (g .high ≤ 6800) × (n ≤ 429496) ⌝ }
-    ensures { λ q. ⌜ ((v : Value) (l : Layout) → n ≡ wholePart v → Changed g SkipRows v at l r q) ⌝ }
+    ensures { λ q. ⌜ ((v : Value) (l : Layout) (deep : ℕ) → n ≡ wholePart v → Changed g SkipRows v at l r deep q) ⌝ }
 {
     if r.started {
         let y = into_height(g, at.y as u64 + rows_high(n, r.resolution));
         return Change::To(Spot { x: at.x, y });
     }
-    Change::Other
+    Change::Barred(Finding::NotNow)
 }
 
 // What a command changes. The value is here as it is used.
-pub fn changed(g: Measure, k: Kind, v: Value, at: Spot, l: Layout, r: Raster) -> Change
-    requires { ⌜ (g .wide ≤ 600) × (g .high ≤ 6800) ⌝ }
-    ensures { λ q. ⌜ Changed g k v at l r q ⌝ }
+pub fn changed(
+    g: Measure,
+    k: Kind,
+    v: Value,
+    at: Spot,
+    l: Layout,
+    r: Raster,
+    depth: usize,
+) -> Change
+    requires { ⌜ (g .wide ≤ 600) × (g .high ≤ 6800) × (depth ≤ 20) ⌝ }
+    ensures { λ q. ⌜ Changed g k v at l r depth q ⌝ }
 {
     match k {
         Kind::Column => Change::To(across_at(g, l.hmi, v, at)),
@@ -306,10 +350,11 @@ pub fn changed(g: Measure, k: Kind, v: Value, at: Spot, l: Layout, r: Raster) ->
         Kind::LinesPerInch => lines_at(whole_part(v), at, l),
         Kind::Hmi => hmi_at(size_of(v), at, l),
         Kind::Termination => termination_at(whole_part(v), at, l),
+        Kind::PushPop => push_pop(whole_part(v), depth),
         Kind::Resolution => resolution_at(whole_part(v), r),
         Kind::StartRaster => start_at(whole_part(v), at, r),
         Kind::EndRaster => end_at(r),
+        Kind::ResetRaster => reset_at(r),
         Kind::SkipRows => skip_at(g, whole_part(v), at, r),
-        _ => Change::Other,
     }
 }

@@ -1,51 +1,43 @@
-// Paper 01, "Commands": what control codes and two-byte commands do to the core, and which end the page.
-// Nothing is refused. Any core is taken; a measure within 4,800 by 6,800 dots is asked for, so that lengths fit.
+// Paper 01, "Commands": where control codes and two-byte commands leave the cursor and the layout, and which codes end the page.
+// Nothing is refused. Any cursor and any layout are taken; a measure within 4,800 by 6,800 dots is asked for, so that lengths fit.
 ghost use mathlib.Core.Path.{_≡_};
 ghost use mathlib.Core.Bool.{cond, _||_};
 ghost use Prim.Native.Nat.{_+_, _*_, _-_, _/_, _≤_, _<_, max};
 ghost use lib.Dec.{eqb, ltb};
 ghost use Rattle.rules.specs.declared.Core.{Core};
 ghost use Rattle.rules.specs.declared.Code.the-variants.{CarriageReturn, LineFeed, FormFeed, Backspace, Tab};
-ghost use Rattle.rules.specs.Measure.{LW};
-ghost use Rattle.rules.specs.States.{withLeft, withRight, withLayout};
-ghost use Rattle.rules.specs.Codes.{carriageReturn, lineFeed, returnsOnFeed, coded, escaped};
-ghost use Rattle.rules.specs.Acts.{endsPage, control, escape};
-use fresh::fresh_core;
+ghost use Rattle.rules.specs.Measure.{LW, half, intoWidth, intoHeight};
+ghost use Rattle.rules.specs.States.{atX, atY, withLeft, withRight};
+ghost use Rattle.rules.specs.Acts.{endsPage, control};
+ghost use Rattle.codes.specs.Moved.{Moved};
 use rules::Code;
-use rules::Core;
-use rules::Escape;
+use rules::Layout;
 use rules::Measure;
+use rules::Spot;
 use state::first_line_at;
+use state::into_height;
+use state::into_width;
 use state::less;
 use state::most;
-use state::to_x;
-use state::to_y;
 use state::width;
 use text::forward_at;
 
 // CR alone: x = L.
-fn carriage_return(g: Measure, c: Core) -> Core
+fn return_at(g: Measure, at: Spot, l: Layout) -> Spot
     requires { ⌜ (g .wide ≤ 600) × (g .high ≤ 6800) ⌝ }
-    ensures { λ r. ⌜ r ≡ carriageReturn g c ⌝ }
+    ensures { λ r. ⌜ r ≡ atX (intoWidth g (l .left)) at ⌝ }
 {
-    let left = c.layout.left as u64;
-    to_x(g, left, c)
+    let x = into_width(g, l.left as u64);
+    Spot { x, y: at.y }
 }
 
 // LF alone: y + VMI.
-fn line_feed(g: Measure, c: Core) -> Core
+fn feed_at(g: Measure, at: Spot, l: Layout) -> Spot
     requires { ⌜ (g .wide ≤ 600) × (g .high ≤ 6800) ⌝ }
-    ensures { λ r. ⌜ r ≡ lineFeed g c ⌝ }
+    ensures { λ r. ⌜ r ≡ atY (intoHeight g (at .y + l .vmi)) at ⌝ }
 {
-    to_y(g, c.at.y as u64 + c.layout.vmi as u64, c)
-}
-
-// CR and LF.
-fn return_and_feed(g: Measure, c: Core) -> Core
-    requires { ⌜ (g .wide ≤ 600) × (g .high ≤ 6800) ⌝ }
-    ensures { λ r. ⌜ r ≡ lineFeed g (carriageReturn g c) ⌝ }
-{
-    line_feed(g, carriage_return(g, c))
+    let y = into_height(g, at.y as u64 + l.vmi as u64);
+    Spot { x: at.x, y }
 }
 
 // Whether the line termination is one of two.
@@ -56,51 +48,47 @@ fn is_either(t: u8, a: u8, b: u8) -> bool
 }
 
 // The code CR: 1 and 3 make it do CR and LF.
-fn code_return(g: Measure, c: Core) -> Core
+fn code_return(g: Measure, at: Spot, l: Layout) -> Spot
     requires { ⌜ (g .wide ≤ 600) × (g .high ≤ 6800) ⌝ }
-    ensures { λ r. ⌜ r ≡ coded g CarriageReturn c ⌝ }
+    ensures { λ r. ⌜ Moved g CarriageReturn at l r ⌝ }
 {
-    if is_either(c.layout.termination, 1, 3) {
-        return_and_feed(g, c)
+    let back = return_at(g, at, l);
+    if is_either(l.termination, 1, 3) {
+        feed_at(g, back, l)
     } else {
-        carriage_return(g, c)
+        back
     }
 }
 
-// The code LF: 2 and 3 make it do CR and LF.
-fn code_feed(g: Measure, c: Core) -> Core
+// What LF and FF do first: 2 and 3 make them do CR too.
+fn before_feed(g: Measure, at: Spot, l: Layout) -> Spot
     requires { ⌜ (g .wide ≤ 600) × (g .high ≤ 6800) ⌝ }
-    ensures { λ r. ⌜ r ≡ coded g LineFeed c ⌝ }
+    ensures { λ r. ⌜ r ≡ cond (eqb (l .termination) 2 || eqb (l .termination) 3) (atX (intoWidth g (l .left)) at) at ⌝ }
 {
-    if is_either(c.layout.termination, 2, 3) {
-        return_and_feed(g, c)
+    if is_either(l.termination, 2, 3) {
+        return_at(g, at, l)
     } else {
-        line_feed(g, c)
+        at
     }
 }
 
-// What FF does first: 2 and 3 make it do CR too.
-fn before_page(g: Measure, c: Core) -> Core
+// The code LF.
+fn code_feed(g: Measure, at: Spot, l: Layout) -> Spot
     requires { ⌜ (g .wide ≤ 600) × (g .high ≤ 6800) ⌝ }
-    ensures { λ r. ⌜ r ≡ cond (returnsOnFeed c) (carriageReturn g c) c ⌝ }
+    ensures { λ r. ⌜ Moved g LineFeed at l r ⌝ }
 {
-    if is_either(c.layout.termination, 2, 3) {
-        carriage_return(g, c)
-    } else {
-        c
-    }
+    let first = before_feed(g, at, l);
+    feed_at(g, first, l)
 }
 
-// The code FF: the first line of the next page, which is unused.
-fn code_page(g: Measure, c: Core) -> Core
+// The code FF: the first line of the next page.
+fn code_page(g: Measure, at: Spot, l: Layout) -> Spot
     requires { ⌜ (g .wide ≤ 600) × (g .high ≤ 6800) ⌝ }
-    ensures { λ r. ⌜ r ≡ coded g FormFeed c ⌝ }
+    ensures { λ r. ⌜ Moved g FormFeed at l r ⌝ }
 {
-    let l = c.layout;
-    let y = first_line_at(l);
-    let mut d = to_y(g, y, before_page(g, c));
-    d.used = false;
-    d
+    let first = before_feed(g, at, l);
+    let y = into_height(g, first_line_at(l));
+    Spot { x: first.x, y }
 }
 
 // Where BS goes: from x > L to no less than L, from x < L to no less than 0; at L no move.
@@ -118,11 +106,12 @@ fn back_to(x: u32, left: u32, hmi: u32) -> u64
 }
 
 // The code BS.
-fn code_back(g: Measure, c: Core) -> Core
+fn code_back(g: Measure, at: Spot, l: Layout) -> Spot
     requires { ⌜ (g .wide ≤ 600) × (g .high ≤ 6800) ⌝ }
-    ensures { λ r. ⌜ r ≡ coded g Backspace c ⌝ }
+    ensures { λ r. ⌜ Moved g Backspace at l r ⌝ }
 {
-    to_x(g, back_to(c.at.x, c.layout.left, c.layout.hmi), c)
+    let x = into_width(g, back_to(at.x, l.left, l.hmi));
+    Spot { x, y: at.y }
 }
 
 // The first tab stop beyond x: the stops are L + 8k × HMI.
@@ -139,56 +128,27 @@ fn next_stop(x: u32, left: u32, hmi: u32) -> u64
 }
 
 // The code HT, which does nothing if HMI is 0.
-fn code_tab(g: Measure, c: Core) -> Core
+fn code_tab(g: Measure, at: Spot, l: Layout) -> Spot
     requires { ⌜ (g .wide ≤ 600) × (g .high ≤ 6800) ⌝ }
-    ensures { λ r. ⌜ r ≡ coded g Tab c ⌝ }
+    ensures { λ r. ⌜ Moved g Tab at l r ⌝ }
 {
-    if c.layout.hmi == 0 {
-        return c;
+    if l.hmi == 0 {
+        return at;
     }
-    let l = c.layout;
-    let from = c.at;
-    let at = forward_at(g, next_stop(from.x, l.left, l.hmi), from, l);
-    let mut d = c;
-    d.at = at;
-    d
+    forward_at(g, next_stop(at.x, l.left, l.hmi), at, l)
 }
 
-// What a control code does.
-pub fn coded(g: Measure, k: Code, c: Core) -> Core
+// Where a control code leaves the cursor.
+pub fn coded_at(g: Measure, k: Code, at: Spot, l: Layout) -> Spot
     requires { ⌜ (g .wide ≤ 600) × (g .high ≤ 6800) ⌝ }
-    ensures { λ r. ⌜ r ≡ coded g k c ⌝ }
+    ensures { λ r. ⌜ Moved g k at l r ⌝ }
 {
     match k {
-        Code::CarriageReturn => code_return(g, c),
-        Code::LineFeed => code_feed(g, c),
-        Code::FormFeed => code_page(g, c),
-        Code::Backspace => code_back(g, c),
-        Code::Tab => code_tab(g, c),
-    }
-}
-
-// ESC 9: L = 0, R = LW.
-fn clear_margins(g: Measure, c: Core) -> Core
-    requires { ⌜ (g .wide ≤ 600) × (g .high ≤ 6800) ⌝ }
-    ensures { λ r. ⌜ r ≡ withLayout (withLeft 0 (withRight (LW g) (c .layout))) c ⌝ }
-{
-    let right = width(g);
-    let mut d = c;
-    d.layout.left = 0;
-    d.layout.right = right;
-    d
-}
-
-// What a two-byte command does.
-pub fn escaped(g: Measure, k: Escape, c: Core) -> Core
-    requires { ⌜ (g .wide ≤ 600) × (g .high ≤ 6800) ⌝ }
-    ensures { λ r. ⌜ r ≡ escaped g k c ⌝ }
-{
-    match k {
-        Escape::Reset => fresh_core(g),
-        Escape::ClearMargins => clear_margins(g, c),
-        Escape::HalfLine => to_y(g, c.at.y as u64 + c.layout.vmi as u64 / 2, c),
+        Code::CarriageReturn => code_return(g, at, l),
+        Code::LineFeed => code_feed(g, at, l),
+        Code::FormFeed => code_page(g, at, l),
+        Code::Backspace => code_back(g, at, l),
+        Code::Tab => code_tab(g, at, l),
     }
 }
 
@@ -205,13 +165,23 @@ pub fn code_ends_page(k: Code) -> bool
     }
 }
 
-// Whether a two-byte command ends the page: ESC E does if it is used.
-pub fn escape_ends_page(k: Escape, c: Core) -> bool
-    ensures { λ r. ⌜ r ≡ endsPage (escape k) c ⌝ }
+// ESC 9: L = 0, R = LW.
+pub fn clear_margins(g: Measure, l: Layout) -> Layout
+    requires { ⌜ (g .wide ≤ 600) × (g .high ≤ 6800) ⌝ }
+    ensures { λ r. ⌜ r ≡ withLeft 0 (withRight (LW g) l) ⌝ }
 {
-    match k {
-        Escape::Reset => c.used,
-        Escape::ClearMargins => false,
-        Escape::HalfLine => false,
-    }
+    let right = width(g);
+    let mut m = l;
+    m.left = 0;
+    m.right = right;
+    m
+}
+
+// ESC =: y + half VMI.
+pub fn half_line(g: Measure, at: Spot, l: Layout) -> Spot
+    requires { ⌜ (g .wide ≤ 600) × (g .high ≤ 6800) ⌝ }
+    ensures { λ r. ⌜ r ≡ atY (intoHeight g (at .y + half (l .vmi))) at ⌝ }
+{
+    let y = into_height(g, at.y as u64 + l.vmi as u64 / 2);
+    Spot { x: at.x, y }
 }

@@ -23,7 +23,6 @@ use Rattle.rules.specs.declared.Command.the-variants.{Valued, Method, Print, Ro
 use Rattle.rules.specs.declared.Finding.{Finding}
 use Rattle.rules.specs.declared.Finding.the-variants.{Nothing, NotCarried, NotAllowed, EndsInside, CannotStand, StackLimit, NotNow, DamagedRow}
 use Rattle.rules.specs.declared.Spot.{Spot}
-use Rattle.rules.specs.declared.Layout.{Layout}
 use Rattle.rules.specs.declared.Raster.{Raster}
 use Rattle.rules.specs.declared.Core.{Core}
 use Rattle.rules.specs.declared.Beside.{Beside}
@@ -41,9 +40,6 @@ use Rattle.rules.specs.Acts.{Act, type, control, escape, order, print, draw, sh
 use Rattle.rules.specs.Items as rule
 use Rattle.rows.specs.Decoding.{Decoded}
 use Rattle.raster.specs.Cursor.{rasterBegun, rowSpot, movedOn}
-use Rattle.changes.specs.declared.Change.{Change}
-use Rattle.changes.specs.declared.Change.the-variants.{To, Laid, Drawn, Fresh, Other}
-use Rattle.changes.specs.Changed.{made, Goes, Changed}
 use Rattle.raster.proofs.Drawing.{drawn-parts, row-parts, begun-raster, begun-at, begun-seed}
 use Rattle.theorems.proofs.Lengths.{decoded-length}
 use Rattle.theorems.proofs.Soundness.{drop-zeros}
@@ -54,16 +50,15 @@ use Rattle.reader.specs.Items.{itemIn}
 use Rattle.reader.proofs.Item.{the-type}
 use denote.Enum.Declared.{tagOf}
 use types.Run.{OneOf, miss}
-use Rattle.items.specs.declared.Acted.{Acted}
 use Rattle.items.specs.declared.Coding.{Coding}
 use Rattle.items.specs.declared.Coding.the-variants as coding
 use Rattle.items.specs.declared.Escaping.{Escaping}
 use Rattle.items.specs.declared.Escaping.the-variants as escaping
-use Rattle.items.specs.Acted.{actedOf, acted, pageAfter, ActedOn, ActedFor, ItemChanged, codeOf, escapeOf, meanBytes}
+use Rattle.items.specs.Acted.{Acted, actedOf, acted, pageAfter, ActedOn, ActedFor, codeOf, escapeOf, meanBytes}
 
 module _ (g : Measure) where
   -- nothing is done
-  done-nothing : (f : Finding) (c : Core) (m : Beside) → ActedFor g (nothingDone f m) c (actedOf c m f false)
+  pub done-nothing : (f : Finding) (c : Core) (m : Beside) → ActedFor g (nothingDone f m) c (actedOf c m f false)
   unfolding acted pageAfter nextAll showAll
   done-nothing f c m p = record { given = refl; page = refl }
 
@@ -215,11 +210,11 @@ pub painting-of : (w n : ℕ) (row page after : List ℕ) (dots d from line : �
 painting-of w n row page after dots d from line x y h = rw (← x) (rw y at h)
 
 -- the variants of an item but for the command
-abbrev others : List ℕ
+abbrev pub others : List ℕ
 others = 0 ∷ 1 ∷ 2 ∷ 4 ∷ []
 
 -- an item that is no command has the meaning of its bytes
-bytes-mean : (g : Measure) (s : List ℕ) (i : Item) (c : Core) (m : Beside) → OneOf others (tagOf the-type i) → meanBytes g i c m ≡ mean g (itemIn s i) c m
+pub bytes-mean : (g : Measure) (s : List ℕ) (i : Item) (c : Core) (m : Beside) → OneOf others (tagOf the-type i) → meanBytes g i c m ≡ mean g (itemIn s i) c m
 unfolding mean
 bytes-mean g s (found.Text b) c m h = refl
 bytes-mean g s (found.Code b) c m h = refl
@@ -236,27 +231,6 @@ pub item-command : (g : Measure) (s page : List ℕ) (i : Item) (k : Command) (f
     → ActedOn g (meanCommand g k (take (to - from) (drop from s)) c m) c page r after → ActedOn g (mean g (itemIn s i) c m) c page r after
 unfolding mean
 item-command g s page i k from to c m r after e h = rw e h
-
--- a command that makes a change: nothing else is done
-pub item-changed : (g : Measure) (i : Item) (j : Command) (from to : ℕ) (k : Kind) (v u : Value) (at : Spot) (l : Layout) (r : Raster) (d : Change) (t : Bool) → i ≡ found.Command j from to → j ≡ Valued k v → t ≡ isNegative (useOf k) v → t ≡ false
-    → u ≡ usedValue (useOf k) v → Changed g k u at l r d → ItemChanged g i at l r d
-item-changed g i j from to k v u at l r d t e f o y x = go d
-  where
-    told : (b : Change) → ((c : Core) → at ≡ c .at → l ≡ c .layout → r ≡ c .raster → Goes g k u b c)
-        → (s : List ℕ) (c : Core) (m : Beside) → at ≡ c .at → l ≡ c .layout → r ≡ c .raster → ActedFor g (mean g (itemIn s i) c m) c (actedOf (made b c) m Nothing false)
-    told b h s c m p q w page =
-        let z = h c p q w in
-        let a : made b c ≡ cond (isClean (barred g k u c)) (effect g k u c) c = rw (z .free) (sym (z .there)) in
-        let n = take (to - from) (drop from s) in
-        let done = valued-done g k v u c (made b c) m m Nothing t o y x (sym (z .free)) a (λ n. sym (z .aside n m)) n page in
-        item-command g s page i j from to c m (actedOf (made b c) m Nothing false) page e (rw f done)
-
-    go : (b : Change) → Changed g k u at l r b → ItemChanged g i at l r b
-    go (To p) h = told (To p) h
-    go (Laid p n) h = told (Laid p n) h
-    go (Drawn q) h = told (Drawn q) h
-    go (Fresh q) h = told (Fresh q) h
-    go Other h = tt
 
 -- a list of zeros
 zeros : (l : List ℕ) → allZero l ≡ true → l ≡ replicate (length l) 0
@@ -334,11 +308,3 @@ module _ (g : Measure) (v : Value) (p : List ℕ) (c : Core) (m : Beside) where
       let r : q ≡ begun c .raster = h ∙ sym (begun-raster c) in
       let y′ : painting ≡ painted (g .wide) (take (g .wide) after) (300 / begun c .raster .resolution) (begun c .raster .margin / dotUnit) (begun c .at .y / dotUnit) page = rw (begun-at c, ← r) y in
       rw (k, h) (rw (row-parts g c after) at (drawing fits l clear (begun c) (movedOn g (begun c)) after page painting t o f i e refl refl x′ y′ z))
-
--- the row method behind a command that is not barred
-pub beside-moved : (k : Kind) (f : Finding) (m n : Beside) (t : Bool) → t ≡ isClean f → t ≡ true → ((v : Value) → n ≡ besideAfter (order k v) m) → (v : Value) → n ≡ cond (isClean f) (besideAfter (order k v) m) m
-beside-moved k f m n t e h z v = rw (← e, h) (z v)
-
--- and behind one that is
-pub beside-kept : (k : Kind) (f : Finding) (m : Beside) (t : Bool) → t ≡ isClean f → t ≡ false → (v : Value) → m ≡ cond (isClean f) (besideAfter (order k v) m) m
-beside-kept k f m t e h v = rw (← e, h)

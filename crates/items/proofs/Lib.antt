@@ -1,1 +1,2 @@
 pub mod Deeds
+pub mod Penned

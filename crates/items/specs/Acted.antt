@@ -1,6 +1,6 @@
 -- What an item did, from its meaning: the acts of the rules, done on the core and shown on the page.
 use mathlib.Core.Path.{_≡_}
-use mathlib.Core.Bool.{Bool, false, cond, not}
+use mathlib.Core.Bool.{Bool, cond, not}
 use mathlib.Core.List.{List, []}
 use Prim.Native.Nat.{ℕ}
 use lib.Dec.{eqb}
@@ -10,9 +10,6 @@ use Rattle.rules.specs.declared.Code.the-variants.{CarriageReturn, LineFeed, Fo
 use Rattle.rules.specs.declared.Escape.the-variants.{Reset, ClearMargins, HalfLine}
 use Rattle.rules.specs.declared.Finding.{Finding}
 use Rattle.rules.specs.declared.Finding.the-variants.{Nothing}
-use Rattle.rules.specs.declared.Spot.{Spot}
-use Rattle.rules.specs.declared.Layout.{Layout}
-use Rattle.rules.specs.declared.Raster.{Raster}
 use Rattle.rules.specs.declared.Core.{Core}
 use Rattle.rules.specs.declared.Beside.{Beside}
 use Rattle.rules.specs.Codes.{codeByte, escapeByte}
@@ -21,14 +18,17 @@ use Rattle.rules.specs.Acts.{World, world, showAll, nextAll, Meaning, nothingDo
 use Rattle.rules.specs.Run.{pageOf}
 use Rattle.reader.specs.declared.Item.{Item}
 use Rattle.reader.specs.declared.Item.the-variants.{Text, Code, Two, Command, Broken}
-use Rattle.reader.specs.Items.{itemIn}
-use Rattle.changes.specs.declared.Change.{Change}
-use Rattle.changes.specs.Changed.{made, IfTold}
-use Rattle.items.specs.declared.Acted.{Acted}
 use Rattle.items.specs.declared.Coding.{Coding}
 use Rattle.items.specs.declared.Coding.the-variants as coding
 use Rattle.items.specs.declared.Escaping.{Escaping}
 use Rattle.items.specs.declared.Escaping.the-variants as escaping
+
+-- what an item did besides the page: the core and the row method behind it, its finding, and whether it ended the page
+pub record Acted : Type 0 where
+  pub core : Core
+  pub beside : Beside
+  pub finding : Finding
+  pub ended : Bool
 
 abbrev pub actedOf : Core → Beside → Finding → Bool → Acted
 actedOf c m f ended = record { core = c; beside = m; finding = f; ended = ended }
@@ -53,11 +53,6 @@ pub record ActedOn (g : Measure) (o : Meaning) (c : Core) (p : List ℕ) (r : Ac
 -- the same, whatever the page, which stays as it is
 abbrev pub ActedFor : Measure → Meaning → Core → Acted → Type 0
 ActedFor g o c r = (p : List ℕ) → ActedOn g o c p r p
-
--- what is told of an item where the cursor is at p, the layout is l and the raster state is q: that it makes the change d and does nothing else
-abbrev pub ItemChanged : Measure → Item → Spot → Layout → Raster → Change → Type 0
-ItemChanged g i p l q d =
-    IfTold d ((s : List ℕ) (c : Core) (m : Beside) → p ≡ c .at → l ≡ c .layout → q ≡ c .raster → ActedFor g (mean g (itemIn s i) c m) c (actedOf (made d c) m Nothing false))
 
 -- the code that a byte is
 abbrev pub codeOf : ℕ → Coding

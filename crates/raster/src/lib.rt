@@ -1,14 +1,9 @@
-// What a row does to the state besides its dots and its bytes; what sets the row method back.
+// What a row does to the state besides its dots and its bytes.
 ghost use mathlib.Core.Path.{_≡_};
 ghost use mathlib.Core.Bool.{cond};
 ghost use Prim.Native.Nat.{_≤_};
-ghost use Rattle.rules.specs.declared.Value.{Value};
 ghost use Rattle.rules.specs.States.{zeroSeed};
-ghost use Rattle.rules.specs.Acts.{isResetRaster, besideAfter, order, escape};
 ghost use Rattle.raster.specs.Cursor.{rasterBegun, rowSpot};
-use rules::Beside;
-use rules::Escape;
-use rules::Kind;
 use rules::Measure;
 use rules::Raster;
 use rules::Spot;
@@ -50,32 +45,4 @@ pub fn row_at(g: Measure, at: Spot, r: Raster) -> Spot
     let apart = inch_over(r.resolution as u32);
     let y = into_height(g, at.y as u64 + apart as u64);
     Spot { x, y }
-}
-
-// Whether the command is *rC.
-fn is_reset(k: Kind) -> bool
-    ensures { λ r. ⌜ r ≡ isResetRaster k ⌝ }
-{
-    match k {
-        Kind::ResetRaster => true,
-        _ => false,
-    }
-}
-
-// The row method behind a command: *rC sets it back.
-pub fn beside_order(k: Kind, m: Beside) -> Beside
-    ensures { λ r. ⌜ ((v : Value) → r ≡ besideAfter (order k v) m) ⌝ }
-{
-    if is_reset(k) { Beside { method: 0 } } else { m }
-}
-
-// The row method behind a two-byte command: ESC E sets it back.
-pub fn beside_escape(k: Escape, m: Beside) -> Beside
-    ensures { λ r. ⌜ r ≡ besideAfter (escape k) m ⌝ }
-{
-    match k {
-        Escape::Reset => Beside { method: 0 },
-        Escape::ClearMargins => m,
-        Escape::HalfLine => m,
-    }
 }

@@ -15,7 +15,4 @@ pub use page::in_width;
 pub use page::into_height;
 pub use page::into_width;
 pub use page::measure_of;
-pub use page::started_at;
-pub use page::to_x;
-pub use page::to_y;
 pub use page::width;

@@ -1,11 +1,9 @@
-// Paper 01, "Measures": the page, and the cursor brought into it.
+// Paper 01, "Measures": the page, and places brought into it.
 ghost use mathlib.Core.Path.{_≡_};
 ghost use Prim.Native.Nat.{_≤_, _<_};
 ghost use lib.Dec.{leb};
 ghost use Rattle.rules.specs.Measure.{allowed, measureOf, LW, LH, intoWidth, intoHeight};
-ghost use Rattle.rules.specs.States.{toX, toY, firstLineAt};
-ghost use Rattle.rules.specs.Effects.{startedAt};
-use rules::Core;
+ghost use Rattle.rules.specs.States.{firstLineAt};
 use rules::Layout;
 use rules::Measure;
 
@@ -92,42 +90,9 @@ pub fn into_height(g: Measure, n: u64) -> u32
     }
 }
 
-// The cursor at x = n, in the page.
-pub fn to_x(g: Measure, n: u64, c: Core) -> Core
-    requires { ⌜ (g .wide ≤ 600) × (g .high ≤ 6800) ⌝ }
-    ensures { λ r. ⌜ r ≡ toX g n c ⌝ }
-{
-    let x = into_width(g, n);
-    let mut d = c;
-    d.at.x = x;
-    d
-}
-
-// The cursor at y = n, in the page.
-pub fn to_y(g: Measure, n: u64, c: Core) -> Core
-    requires { ⌜ (g .wide ≤ 600) × (g .high ≤ 6800) ⌝ }
-    ensures { λ r. ⌜ r ≡ toY g n c ⌝ }
-{
-    let y = into_height(g, n);
-    let mut d = c;
-    d.at.y = y;
-    d
-}
-
 // The first line of a page: the top margin and three quarters of VMI.
 pub fn first_line_at(l: Layout) -> u64
     ensures { λ r. ⌜ (r ≡ firstLineAt l) × (r < 8589934592) ⌝ }
 {
     l.top as u64 + (l.vmi as u64) * 3 / 4
-}
-
-// Raster started, with its margin and a seed row of zeros.
-pub fn started_at(margin: u32, c: Core) -> Core
-    ensures { λ r. ⌜ r ≡ startedAt margin c ⌝ }
-{
-    let mut d = c;
-    d.raster.started = true;
-    d.raster.margin = margin;
-    d.seed = [0u8; 600];
-    d
 }

@@ -13,7 +13,7 @@ use Rattle.rules.specs.declared.Core.{Core}
 use Rattle.rules.specs.Measure.{LW, intoWidth, spot}
 use Rattle.rules.specs.States.{withAt, withUsed}
 use Rattle.rules.specs.Codes.{typed, typedAll}
-use Rattle.text.specs.Cursor.{forwardSpot, typedSpot}
+use Rattle.text.specs.Cursor.{forwardSpot, typedSpot, TypedAll}
 
 -- the cursor of `typed` is that of `typedSpot`
 pub typed-spot : (g : Measure) (b : ℕ) (c : Core) → typed g b c .at ≡ typedSpot g (c .at) (c .layout)
@@ -30,13 +30,21 @@ unfolding typed
 typed-parts g b c p u e f = rw (e, f)
 
 -- text so far leaves the cursor at p and the page used or not; what is left of it makes the whole
-module _ (g : Measure) (s : List ℕ) (c : Core) (p : Spot) (u : Bool) (i : ℕ) (inv : typedAll g s c ≡ typedAll g (drop i s) (withUsed u (withAt p c))) where
-  -- one byte more
-  pub typing-more : (q : Spot) (w : Bool) → i < length s → q ≡ typedSpot g p (c .layout) → w ≡ (u || not (eqb (getD s i 0) 32)) → typedAll g s c ≡ typedAll g (drop (i + 1) s) (withUsed w (withAt q c))
-  unfolding typedAll typed
-  typing-more q w h e f = rw (e, f) (inv ∙ ap (λ (l : List ℕ). typedAll g l (withUsed u (withAt p c))) (cut s i h))
+abbrev pub Typing : Measure → List ℕ → Spot → Layout → Bool → Spot → Bool → ℕ → Type 0
+Typing g s from l was p u i = (c : Core) → from ≡ c .at → l ≡ c .layout → was ≡ c .used → typedAll g s c ≡ typedAll g (drop i s) (withUsed u (withAt p c))
 
-  -- no byte more
-  pub typing-ends : length s ≤ i → withUsed u (withAt p c) ≡ typedAll g s c
-  unfolding typedAll
-  typing-ends h = sym (inv ∙ ap (λ (l : List ℕ). typedAll g l (withUsed u (withAt p c))) (drop-of-length-le s h))
+module _ (g : Measure) (s : List ℕ) (from : Spot) (l : Layout) (was : Bool) where
+  -- no byte yet
+  pub typing-first : Typing g s from l was from was 0
+  typing-first = λ c x y z. rw (x, z)
+
+  module _ (p : Spot) (u : Bool) (i : ℕ) (inv : Typing g s from l was p u i) where
+    -- one byte more
+    pub typing-more : (q : Spot) (w : Bool) → i < length s → q ≡ typedSpot g p l → w ≡ (u || not (eqb (getD s i 0) 32)) → Typing g s from l was q w (i + 1)
+    unfolding typedAll typed
+    typing-more q w h e f = λ c x y z. rw (e, f, y) (inv c x y z ∙ ap (λ (k : List ℕ). typedAll g k (withUsed u (withAt p c))) (cut s i h))
+
+    -- no byte more
+    pub typing-ends : length s ≤ i → TypedAll g s from l was (record { at = p; used = u })
+    unfolding typedAll
+    typing-ends h = λ c x y z. sym (inv c x y z ∙ ap (λ (k : List ℕ). typedAll g k (withUsed u (withAt p c))) (drop-of-length-le s h))

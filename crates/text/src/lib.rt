@@ -1,13 +1,11 @@
-// Paper 01, "Commands": what text does to the core, and how far a move forward goes.
-// Nothing is refused. Any core is taken; a measure within 4,800 by 6,800 dots is asked for, so that lengths fit.
+// Paper 01, "Commands": where text leaves the cursor and whether it marks the page, and how far a move forward goes.
+// Nothing is refused. Any cursor is taken; a measure within 4,800 by 6,800 dots is asked for, so that lengths fit.
 ghost use mathlib.Core.Path.{_≡_};
 ghost use mathlib.Core.Bool.{cond, not, _||_};
 ghost use Prim.Native.Nat.{_≤_};
 ghost use lib.Dec.{eqb, leb};
 ghost use Rattle.rules.specs.Measure.{LW};
-ghost use Rattle.rules.specs.Codes.{typed, typedAll};
-ghost use Rattle.text.specs.Cursor.{forwardSpot, typedSpot};
-use rules::Core;
+ghost use Rattle.text.specs.Cursor.{forwardSpot, typedSpot, TypedAll};
 use rules::Layout;
 use rules::Measure;
 use rules::Spot;
@@ -48,37 +46,24 @@ pub fn marked(used: bool, b: u8) -> bool
     if used { true } else { b != 32 }
 }
 
-// A space or a text byte.
-pub fn typed(g: Measure, b: u8, c: Core) -> Core
-    requires { ⌜ (g .wide ≤ 600) × (g .high ≤ 6800) ⌝ }
-    ensures { λ r. ⌜ r ≡ typed g b c ⌝ }
-{
-    let l = c.layout;
-    let from = c.at;
-    let at = typed_at(g, from, l);
-    let used = marked(c.used, b);
-    let mut d = c;
-    d.at = at;
-    d.used = used;
-    d
+// Where text leaves the cursor, and whether the page is then used.
+pub struct Typed {
+    pub at: Spot,
+    pub used: bool,
 }
 
 // &p#X: each payload byte moves as text.
-pub fn typed_all(g: Measure, s: &[u8], c: Core) -> Core
+pub fn typed_all(g: Measure, s: &[u8], from: Spot, l: Layout, was: bool) -> Typed
     requires { ⌜ (g .wide ≤ 600) × (g .high ≤ 6800) ⌝ }
-    ensures { λ r. ⌜ r ≡ typedAll g (now (s .entry)) c ⌝ }
+    ensures { λ r. ⌜ TypedAll g (now (s .entry)) from l was r ⌝ }
 {
-    let l = c.layout;
-    let mut at = c.at;
-    let mut used = c.used;
+    let mut at = from;
+    let mut used = was;
     let mut i = 0;
     while i < s.len() {
         at = typed_at(g, at, l);
         used = marked(used, s[i]);
         i += 1;
     }
-    let mut d = c;
-    d.at = at;
-    d.used = used;
-    d
+    Typed { at, used }
 }

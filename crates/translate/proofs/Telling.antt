@@ -13,15 +13,13 @@ use Rattle.rules.specs.declared.Measure.{Measure}
 use Rattle.rules.specs.declared.Sequence.{Sequence}
 use Rattle.rules.specs.declared.Sequence.the-variants.{Closed, Open}
 use Rattle.rules.specs.declared.Spot.{Spot}
-use Rattle.rules.specs.declared.Layout.{Layout}
-use Rattle.rules.specs.declared.Raster.{Raster}
 use Rattle.rules.specs.declared.Finding.{Finding}
 use Rattle.rules.specs.declared.Finding.the-variants.{Nothing}
 use Rattle.rules.specs.declared.Core.{Core}
 use Rattle.rules.specs.declared.Beside.{Beside}
 use Rattle.rules.specs.declared.State.{State}
 use Rattle.rules.specs.Sound.{sequenceSound}
-use Rattle.rules.specs.States.{stateOf, withAt, withLayout, withRaster, withUsed, afresh}
+use Rattle.rules.specs.States.{stateOf, withAt, withUsed, afresh}
 use Rattle.rules.specs.Codes.{typed}
 use Rattle.rules.specs.Items.{isText, read}
 use Rattle.rules.specs.Items as rule
@@ -29,19 +27,18 @@ use Rattle.rules.specs.Acts.{Act, mean, step, isClosed, over}
 use Rattle.rules.specs.Run.{Trace, trace, traceOf, enough, wholeStream, actsOf, acts}
 use Rattle.rules.specs.Plain.{put, putAll, plain}
 use Rattle.reader.specs.declared.ReadItem.{ReadItem}
-use Rattle.reader.specs.declared.Item.{Item}
 use Rattle.reader.specs.declared.Item.the-variants as found
 use Rattle.reader.specs.Items.{readAt, itemIn, ItemAt}
 use Rattle.reader.proofs.Places.{read-back}
-use Rattle.items.specs.declared.Acted.{Acted}
-use Rattle.items.specs.Acted.{actedOf, acted, ActedOn, ActedFor, ItemChanged}
+use Rattle.pens.specs.declared.Pen.{Pen}
+use Rattle.pens.specs.Pens.{penOf, coreOf}
+use Rattle.items.specs.declared.Deed.{Deed}
+use Rattle.items.specs.Acted.{Acted, actedOf, acted, ActedOn}
+use Rattle.items.specs.Deeds.{wholeOf, DeedOn}
 use Rattle.items.proofs.Deeds.{text-done}
-use Rattle.changes.specs.declared.Change.{Change}
-use Rattle.changes.specs.declared.Change.the-variants.{To, Laid, Drawn}
-use Rattle.changes.specs.Changed.{made}
 use Rattle.text.specs.Cursor.{typedSpot}
 use Rattle.turns.specs.Turns.{textNext, ItemDone}
-use Rattle.turns.proofs.Turns.{item-done, over-not, text-plain, text-told}
+use Rattle.turns.proofs.Turns.{item-done, over-not, pen-back, text-plain, text-told}
 use Rattle.theorems.specs.Facts.{Fits, Shaped, SoundState}
 use Rattle.theorems.proofs.Reading.{left}
 use Rattle.theorems.proofs.Lengths.{fresh-shaped}
@@ -153,13 +150,11 @@ module _ (g : Measure) (fit : Fits g) (s before : List ℕ) (t : State) (at : �
         let z : itemIn s (r .item) ≡ read (t .sequence) (drop at s) .item = ap (λ (y : ReadItem). itemIn s (y .item)) (i .is) ∙ read-back s at (t .sequence) in
         rw (← z, d .given) (item-tells g (t .core) (t .beside) l (itemIn s (r .item)) (fit .wide) (h .shaped))
 
-    -- the seed row holds a row
-    pub telling-seed : g .wide ≤ length (a .core .seed)
+    -- the seed row keeps its length
+    pub telling-seed : length (a .core .seed) ≡ 600
     telling-seed =
-        let n : length (step g t (drop at s) .state .core .seed) ≡ 600 = step-shaped g (fit .wide) t (drop at s) (h .shaped) not-over .0 in
         let m : a .core ≡ step g t (drop at s) .state .core = ap (λ (z : State). z .core) (done .state) in
-        let w = fit .wide in
-        rw m (omega arith)
+        rw m (step-shaped g (fit .wide) t (drop at s) (h .shaped) not-over .0)
 
     -- less is left
     pub telling-less : left (r .sequence) (drop (r .next) s) < left (t .sequence) (drop at s)
@@ -208,20 +203,6 @@ text-at s at l h =
       low = omega arith;
     }
 
--- the change that an item makes, as it is told
-module _ (g : Measure) (s : List ℕ) (i : Item) (c : Core) (m : Beside) (v : Change) (j : ItemChanged g i (c .at) (c .layout) (c .raster) v) where
-  abbrev Makes : Change → Type 0
-  Makes d = ActedFor g (mean g (itemIn s i) c m) c (actedOf (made d c) m Nothing false)
-
-  makes-to : (p : Spot) → v ≡ To p → Makes (To p)
-  makes-to p z = let w : ItemChanged g i (c .at) (c .layout) (c .raster) (To p) = rw z at j in w s c m refl refl refl
-
-  makes-laid : (p : Spot) (l : Layout) → v ≡ Laid p l → Makes (Laid p l)
-  makes-laid p l z = let w : ItemChanged g i (c .at) (c .layout) (c .raster) (Laid p l) = rw z at j in w s c m refl refl refl
-
-  makes-drawn : (b : Raster) → v ≡ Drawn b → Makes (Drawn b)
-  makes-drawn b z = let w : ItemChanged g i (c .at) (c .layout) (c .raster) (Drawn b) = rw z at j in w s c m refl refl refl
-
 module _ (g : Measure) (fit : Fits g) (s before : List ℕ) (c : Core) (m : Beside) (q : Sequence) (at : ℕ) (room : List ℕ) (end : ℕ) (h : Telling g s before (stateOf c m q) at room end) where
   -- behind a space or a text byte: the cursor moved, the page is used or not
   pub telling-text : (x : Bool) (to : Spot) (u : Bool) (room′ : List ℕ) (end′ : ℕ) → x ≡ textNext s at q → x ≡ true → to ≡ typedSpot g (c .at) (c .layout) → u ≡ (c .used || not (eqb (getD s at 0) 32))
@@ -240,40 +221,6 @@ module _ (g : Measure) (fit : Fits g) (s before : List ℕ) (c : Core) (m : Besi
           telling-more g fit s before (stateOf c m Closed) at room end h false v refl (record { item = found.Text (getD s at 0); sequence = Closed; next = at + 1 }) (actedOf (withUsed u (withAt to c)) m Nothing false) [] [] i a [] room′ end′ refl q
       go (Open first group) e h v i a q = absurd (false≢true (ap isClosed e))
 
-  -- a command that makes a change and does nothing else
-  module _ (x : Bool) (e : x ≡ over (stateOf c m q) (drop at s)) (f : x ≡ false) (r : ReadItem) (i : ItemAt s at q r) (d : Change) (w : ActedFor g (mean g (itemIn s (r .item)) c m) c (actedOf (made d c) m Nothing false)) where
-    -- less is left behind it
-    made-less : left (r .sequence) (drop (r .next) s) < left q (drop at s)
-    made-less = telling-less g fit s before (stateOf c m q) at room end h x e f r (actedOf (made d c) m Nothing false) [] [] i (w [])
-
-    -- behind it: the change is made
-    telling-made : (room′ : List ℕ) (end′ : ℕ) → PutsShort room end (plainItem (itemIn s (r .item)) Nothing (take (g .wide) (made d c .seed))) room′ end′
-        → Telling g s before (stateOf (made d c) m (r .sequence)) (r .next) room′ end′
-    telling-made room′ end′ p = telling-more g fit s before (stateOf c m q) at room end h x e f r (actedOf (made d c) m Nothing false) [] [] i (w []) [] room′ end′ refl p
-
-  -- the same as the change is told
-  module _ (x : Bool) (e : x ≡ over (stateOf c m q) (drop at s)) (f : x ≡ false) (r : ReadItem) (i : ItemAt s at q r) (v : Change) (j : ItemChanged g (r .item) (c .at) (c .layout) (c .raster) v) where
-    abbrev Behind : Core → Type 0
-    Behind d = (room′ : List ℕ) (end′ : ℕ) → PutsShort room end (plainItem (itemIn s (r .item)) Nothing (take (g .wide) (c .seed))) room′ end′ → Telling g s before (stateOf d m (r .sequence)) (r .next) room′ end′
-
-    pub to-less : (p : Spot) → v ≡ To p → left (r .sequence) (drop (r .next) s) < left q (drop at s)
-    to-less p z = made-less x e f r i (To p) (makes-to g s (r .item) c m v j p z)
-
-    pub telling-to : (p : Spot) → v ≡ To p → Behind (withAt p c)
-    telling-to p z = telling-made x e f r i (To p) (makes-to g s (r .item) c m v j p z)
-
-    pub laid-less : (p : Spot) (l : Layout) → v ≡ Laid p l → left (r .sequence) (drop (r .next) s) < left q (drop at s)
-    laid-less p l z = made-less x e f r i (Laid p l) (makes-laid g s (r .item) c m v j p l z)
-
-    pub telling-laid : (p : Spot) (l : Layout) → v ≡ Laid p l → Behind (withLayout l (withAt p c))
-    telling-laid p l z = telling-made x e f r i (Laid p l) (makes-laid g s (r .item) c m v j p l z)
-
-    pub drawn-less : (b : Raster) → v ≡ Drawn b → left (r .sequence) (drop (r .next) s) < left q (drop at s)
-    drawn-less b z = made-less x e f r i (Drawn b) (makes-drawn g s (r .item) c m v j b z)
-
-    pub telling-drawn : (b : Raster) → v ≡ Drawn b → Behind (withRaster b c)
-    telling-drawn b z = telling-made x e f r i (Drawn b) (makes-drawn g s (r .item) c m v j b z)
-
   -- less is left behind a text byte
   pub text-less : (x : Bool) → x ≡ textNext s at q → x ≡ true → left q (drop (at + 1) s) < left q (drop at s)
   unfolding left
@@ -283,6 +230,27 @@ module _ (g : Measure) (fit : Fits g) (s before : List ℕ) (c : Core) (m : Besi
       go Closed l = rw (cut s at l) (omega arith)
       go (Open first group) l = rw (cut s at l) (omega arith)
 
-  -- the seed row holds a row
-  pub seed-there : g .wide ≤ length (c .seed)
-  seed-there = let n = h .shaped .0 in let w = fit .wide in omega arith
+-- before the first item, where the state was taken apart
+pub telling-apart : (g : Measure) (s room : List ℕ) (t : State) (n : Pen) → Fits g → t ≡ afresh g → n ≡ penOf (t .core) → Telling g s room (stateOf (coreOf n (t .core .stack) (t .core .seed)) (t .beside) (t .sequence)) 0 room 0
+telling-apart g s room t n f e k = rw (pen-back n (t .core) k) (telling-first g s room t f e)
+
+-- an item done on the parts of a core
+module _ (g : Measure) (fit : Fits g) (s before : List ℕ) (n : Pen) (l : List Spot) (seed : List ℕ) (m : Beside) (q : Sequence) (at : ℕ) (room : List ℕ) (end : ℕ) (h : Telling g s before (stateOf (coreOf n l seed) m q) at room end)
+    (x : Bool) (e : x ≡ over (stateOf (coreOf n l seed) m q) (drop at s)) (f : x ≡ false) (r : ReadItem) (d : Deed) (p seed′ p′ : List ℕ) (i : ItemAt s at q r)
+    (k : DeedOn g (λ (c : Core). mean g (itemIn s (r .item)) c m) n seed p d seed′ p′) where
+  -- the seed row keeps its length
+  pub deed-long : length seed′ ≡ 600
+  deed-long = telling-seed g fit s before (stateOf (coreOf n l seed) m q) at room end h x e f r (wholeOf n l seed′ d) p p′ i (k .acted l)
+
+  -- it holds a row
+  pub deed-seed : g .wide ≤ length seed′
+  deed-seed = let n = deed-long in let w = fit .wide in omega arith
+
+  -- less is left
+  pub deed-less : left (r .sequence) (drop (r .next) s) < left q (drop at s)
+  deed-less = telling-less g fit s before (stateOf (coreOf n l seed) m q) at room end h x e f r (wholeOf n l seed′ d) p p′ i (k .acted l)
+
+  -- behind it
+  pub telling-deed : (c : Core) → wholeOf n l seed′ d .core ≡ c → (none room′ : List ℕ) (end′ : ℕ) → length none ≡ 0 → PutsShort (none ++ room) end (plainItem (itemIn s (r .item)) (d .finding) (take (g .wide) seed′)) room′ end′
+      → Telling g s before (stateOf c (d .beside) (r .sequence)) (r .next) room′ end′
+  telling-deed c z none room′ end′ y w = rw (← z) (telling-more g fit s before (stateOf (coreOf n l seed) m q) at room end h x e f r (wholeOf n l seed′ d) p p′ i (k .acted l) none room′ end′ y w)

@@ -10,11 +10,11 @@ ghost use Rattle.theorems.specs.Statements.{TranslatePromise};
 ghost use Rattle.reader.specs.Items.{itemIn, fromOf, toOf};
 ghost use Rattle.plainitem.specs.Plain.{PutsShort, plainItem};
 ghost use Rattle.translate.specs.Walked.{Walked};
-use changes::Change;
 use common::least;
 use fresh::afresh;
-use items::change_item;
+use items::Stacking;
 use items::do_item;
+use pens::pen_of;
 use plainitem::write_item;
 use plainitem::write_one;
 use reader::Item;
@@ -22,6 +22,7 @@ use reader::read_item;
 use rules::Finding;
 use rules::Measure;
 use rules::Refusal;
+use rules::Spot;
 use rules::Translated;
 use rules::Verdict;
 use state::allowed;
@@ -47,14 +48,17 @@ fn write_done(
     write_item(s, i, f, &seed[0..wide], room, at)
 }
 
-// The stream walked from its start, afresh, to its end, as a run does it: text, and commands that change little, here, all else by `do_item`. What is drawn
-// falls on a page of no bytes. It ends early where more than `most` bytes are to be written.
+// The stream walked from its start, afresh, to its end, as a run does it: text here, all else by `do_item`. What is drawn falls on a page of no bytes.
+// It ends early where more than `most` bytes are to be written.
 fn walk(g: Measure, s: &[u8], room: &mut [u8], most: usize) -> usize
     requires { ⌜ Fits g × (length (now s) ≤ 1048576) ⌝ }
     ensures { λ r. ⌜ Walked g (now (s .entry)) (now (room .entry)) most r (now (room .exit)) ⌝ }
 {
     let t = afresh(g);
-    let mut core = t.core;
+    let core = t.core;
+    let mut pen = pen_of(core);
+    let mut stack = core.stack;
+    let mut seed = core.seed;
     let mut beside = t.beside;
     let mut sequence = t.sequence;
     let mut at: usize = 0;
@@ -64,12 +68,12 @@ fn walk(g: Measure, s: &[u8], room: &mut [u8], most: usize) -> usize
             return end;
         }
         if text_next(s, at, sequence) {
-            let from = core.at;
-            let layout = core.layout;
+            let from = pen.at;
+            let layout = pen.layout;
             let to = typed_at(g, from, layout);
-            let used = marked(core.used, s[at]);
-            core.at = to;
-            core.used = used;
+            let used = marked(pen.used, s[at]);
+            pen.at = to;
+            pen.used = used;
             end = write_one(s[at], room, end);
             at += 1;
             continue;
@@ -79,39 +83,32 @@ fn walk(g: Measure, s: &[u8], room: &mut [u8], most: usize) -> usize
         }
         let r = read_item(s, at, sequence);
         let item = r.item;
-        let here = core.at;
-        let around = core.layout;
-        let drawing = core.raster;
-        let change = change_item(g, item, here, around, drawing);
-        if let Change::To(there) = change {
-            end = write_done(s, item, Finding::Nothing, &core.seed, g.wide, room, end);
-            core.at = there;
-            sequence = r.sequence;
-            at = r.next;
-            continue;
-        }
-        if let Change::Laid(there, laid) = change {
-            end = write_done(s, item, Finding::Nothing, &core.seed, g.wide, room, end);
-            core.at = there;
-            core.layout = laid;
-            sequence = r.sequence;
-            at = r.next;
-            continue;
-        }
-        if let Change::Drawn(raster) = change {
-            end = write_done(s, item, Finding::Nothing, &core.seed, g.wide, room, end);
-            core.raster = raster;
-            sequence = r.sequence;
-            at = r.next;
-            continue;
-        }
-        let a = do_item(&mut room[0..0], g, s, item, core, beside);
-        let finding = a.finding;
-        core = a.core;
-        beside = a.beside;
+        let d = do_item(&mut room[0..0], g, s, item, pen, beside, &mut seed);
+        let from = pen.at;
+        let depth = pen.depth;
+        let stacking = d.stacking;
+        let finding = d.finding;
+        pen = d.pen;
+        beside = d.beside;
         sequence = r.sequence;
         at = r.next;
-        end = write_done(s, item, finding, &core.seed, g.wide, room, end);
+        end = write_done(s, item, finding, &seed, g.wide, room, end);
+        match stacking {
+            Stacking::Kept => {}
+            Stacking::Pushed => {
+                stack[depth] = from;
+            }
+            Stacking::Popped => {
+                let below = pen.depth;
+                let to = stack[below];
+                let free = Spot { x: 0, y: 0 };
+                stack[below] = free;
+                pen.at = to;
+            }
+            Stacking::Emptied => {
+                stack = [Spot { x: 0, y: 0 }; 20];
+            }
+        }
     }
 }
 

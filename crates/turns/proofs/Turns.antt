@@ -25,25 +25,23 @@ use Rattle.rules.specs.declared.Beside.{Beside}
 use Rattle.rules.specs.declared.State.{State}
 use Rattle.rules.specs.declared.Ran.{Ran}
 use Rattle.rules.specs.Findings.{isClean}
-use Rattle.rules.specs.States.{stateOf, withAt, withLayout, withRaster, withUsed, withSeed, zeroSeed}
+use Rattle.rules.specs.States.{stateOf, withAt, withUsed}
 use Rattle.rules.specs.Codes.{typed}
 use Rattle.rules.specs.Items as rule
 use Rattle.rules.specs.Items.{isText, reading, read}
 use Rattle.rules.specs.Acts.{mean, step, isClosed, over}
 use Rattle.rules.specs.Run.{Outcome, outcome, halted, pageOf, placeOf, runFrom, run}
 use Rattle.rules.specs.declared.Spot.{Spot}
-use Rattle.rules.specs.declared.Layout.{Layout}
-use Rattle.rules.specs.declared.Raster.{Raster}
 use Rattle.reader.specs.declared.Item.the-variants as found
 use Rattle.reader.specs.declared.ReadItem.{ReadItem}
 use Rattle.reader.specs.Items.{readAt, itemIn, ItemAt}
 use Rattle.reader.proofs.Places.{read-left, read-back}
 use Rattle.text.specs.Cursor.{typedSpot}
-use Rattle.items.specs.declared.Acted.{Acted}
-use Rattle.changes.specs.declared.Change.{Change}
-use Rattle.changes.specs.declared.Change.the-variants.{To, Laid, Drawn, Fresh}
-use Rattle.changes.specs.Changed.{made}
-use Rattle.items.specs.Acted.{actedOf, acted, pageAfter, ActedOn, ActedFor, ItemChanged}
+use Rattle.pens.specs.declared.Pen.{Pen}
+use Rattle.pens.specs.Pens.{penOf, coreOf}
+use Rattle.items.specs.declared.Deed.{Deed}
+use Rattle.items.specs.Acted.{Acted, actedOf, acted, pageAfter, ActedOn}
+use Rattle.items.specs.Deeds.{wholeOf, DeedOn}
 use Rattle.items.proofs.Deeds.{text-done}
 use Rattle.turns.specs.Turns.{Stepped, textNext, shownBy, ItemDone, stopOf, RunsOn}
 use Rattle.theorems.specs.Facts.{Fits, Shaped, SoundState}
@@ -286,28 +284,38 @@ module _ (g : Measure) (fit : Fits g) (s : List ℕ) (allow : ℕ) (o : Outcome)
       go Closed e h v i = turn-goes g fit s allow o (stateOf c m Closed) at done p h l false v refl (steppedOf (stateOf (withUsed u (withAt to c)) m Closed) (at + 1) Nothing false) p i true refl refl
       go (Open first group) e h v i = absurd (false≢true (ap isClosed e))
 
-  -- an item that makes a change: the run goes on behind it
-  changes : (x : Bool) (r : ReadItem) (d : Change) → done < allow → x ≡ over (stateOf c m q) (drop at s) → x ≡ false → ItemAt s at q r
-      → ((s : List ℕ) (b : Core) (n : Beside) → c .at ≡ b .at → c .layout ≡ b .layout → c .raster ≡ b .raster → ActedFor g (mean g (itemIn s (r .item)) b n) b (actedOf (made d b) n Nothing false))
-      → Going g s allow o (stateOf (made d c) m (r .sequence)) (r .next) (done + 1) p
-  changes x r d l e f k w =
-      let i = item-done g (stateOf c m q) p s at (actedOf (made d c) m Nothing false) p r (h .inside) k (w s c m refl refl refl p) in
-      turn-goes g fit s allow o (stateOf c m q) at done p h l x e f (steppedOf (stateOf (made d c) m (r .sequence)) (r .next) Nothing false) p i true refl refl
+-- an item done on the parts of a core
+pub deed-done : (g : Measure) (n : Pen) (l : List Spot) (seed : List ℕ) (m : Beside) (q : Sequence) (p s : List ℕ) (at : ℕ) (r : ReadItem) (d : Deed) (seed′ p′ : List ℕ) (c : Core) → at ≤ length s → ItemAt s at q r
+    → DeedOn g (λ (c : Core). mean g (itemIn s (r .item)) c m) n seed p d seed′ p′ → wholeOf n l seed′ d .core ≡ c
+    → ItemDone g (stateOf (coreOf n l seed) m q) p s at (steppedOf (stateOf c (d .beside) (r .sequence)) (r .next) (d .finding) (d .ended)) p′
+deed-done g n l seed m q p s at r d seed′ p′ c i h k e = rw (← e) (item-done g (stateOf (coreOf n l seed) m q) p s at (wholeOf n l seed′ d) p′ r i h (k .acted l))
 
-  module _ (x : Bool) (r : ReadItem) (d : Change) (l : done < allow) (e : x ≡ over (stateOf c m q) (drop at s)) (f : x ≡ false) (k : ItemAt s at q r) (j : ItemChanged g (r .item) (c .at) (c .layout) (c .raster) d) where
-    pub turn-to : (to : Spot) → d ≡ To to → Going g s allow o (stateOf (withAt to c) m (r .sequence)) (r .next) (done + 1) p
-    turn-to to z = changes x r (To to) l e f k (rw z at j)
+-- the core of a pen that was taken from it
+pub pen-back : (n : Pen) (c : Core) → n ≡ penOf c → coreOf n (c .stack) (c .seed) ≡ c
+pen-back n c e = rw e
 
-    pub turn-laid : (to : Spot) (b : Layout) → d ≡ Laid to b → Going g s allow o (stateOf (withLayout b (withAt to c)) m (r .sequence)) (r .next) (done + 1) p
-    turn-laid to b z = changes x r (Laid to b) l e f k (rw z at j)
+-- a run whose state was taken apart gives what it gives in that state
+pub run-whole : (g : Measure) (s : List ℕ) (allow place : ℕ) (t : State) (n : Pen) (p : List ℕ) (r : Ran) (after : List ℕ) → n ≡ penOf (t .core)
+    → RunsOn (runFrom g allow 0 place (stateOf (coreOf n (t .core .stack) (t .core .seed)) (t .beside) (t .sequence)) p (drop place s)) r after → RunsOn (runFrom g allow 0 place t p (drop place s)) r after
+run-whole g s allow place t n p r after e h = rw (pen-back n (t .core) e) at h
 
-    pub turn-drawn : (b : Raster) → d ≡ Drawn b → Going g s allow o (stateOf (withRaster b c) m (r .sequence)) (r .next) (done + 1) p
-    turn-drawn b z = changes x r (Drawn b) l e f k (rw z at j)
+-- what a loop is left with
+pub left-with : (o : Outcome) (p : List ℕ) (n : Pen) (l : List Spot) (seed : List ℕ) (m : Beside) (q : Sequence) (at done : ℕ) (f : Finding) (found : ℕ) (ended : Bool)
+    (p′ : List ℕ) (n′ : Pen) (l′ : List Spot) (seed′ : List ℕ) (m′ : Beside) (q′ : Sequence) (at′ done′ : ℕ) (f′ : Finding) (found′ : ℕ) (ended′ : Bool) (c : Core)
+    → p ≡ p′ → n ≡ n′ → l ≡ l′ → seed ≡ seed′ → m ≡ m′ → q ≡ q′ → at ≡ at′ → done ≡ done′ → f ≡ f′ → found ≡ found′ → ended ≡ ended′
+    → c ≡ coreOf n l seed → RunsOn o (ranOf (stateOf (coreOf n′ l′ seed′) m′ q′) at′ f′ found′ ended′ done′) p′ → RunsOn o (ranOf (stateOf c m q) at f found ended done) p
+left-with o p n l seed m q at done f found ended p′ n′ l′ seed′ m′ q′ at′ done′ f′ found′ ended′ c e0 e1 e2 e3 e4 e5 e6 e7 e8 e9 e10 k h = rw (k, e0, e1, e2, e3, e4, e5, e6, e7, e8, e9, e10) h
 
-    pub turn-fresh : (b : Raster) → d ≡ Fresh b → Going g s allow o (stateOf (withSeed zeroSeed (withRaster b c)) m (r .sequence)) (r .next) (done + 1) p
-    turn-fresh b z = changes x r (Fresh b) l e f k (rw z at j)
+-- a run goes on behind an item without a finding that ends no page
+pub goes-quiet : (f : Finding) (t : Bool) → f ≡ Nothing → t ≡ false → true ≡ (isClean f && not t)
+goes-quiet f t e h = rw (e, h)
 
 -- a run that has not begun
 pub going-first : (g : Measure) (s : List ℕ) (allow place : ℕ) (t : State) (p : List ℕ) → place ≤ length s → Shaped (t .core) → SoundState g t
     → Going g s allow (runFrom g allow 0 place t p (drop place s)) t place 0 p
 going-first g s allow place t p i h k = record { left = rw (sub-zero allow); inside = i; shaped = h; sound = k }
+
+-- nor has one whose state was taken apart
+pub going-apart : (g : Measure) (s : List ℕ) (allow place : ℕ) (t : State) (n : Pen) (p : List ℕ) → n ≡ penOf (t .core) → place ≤ length s → Shaped (t .core) → SoundState g t
+    → Going g s allow (runFrom g allow 0 place (stateOf (coreOf n (t .core .stack) (t .core .seed)) (t .beside) (t .sequence)) p (drop place s)) (stateOf (coreOf n (t .core .stack) (t .core .seed)) (t .beside) (t .sequence)) place 0 p
+going-apart g s allow place t n p e i h k = rw (pen-back n (t .core) e) (going-first g s allow place t p i h k)

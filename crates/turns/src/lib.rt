@@ -11,15 +11,17 @@ ghost use Rattle.rules.specs.Acts.{isClosed};
 ghost use Rattle.rules.specs.Run.{placeOf, runFrom};
 ghost use Rattle.theorems.specs.Facts.{Fits, Shaped, SoundState};
 ghost use Rattle.turns.specs.Turns.{textNext, RunsOn};
-use changes::Change;
-use items::change_item;
+use items::Stacking;
 use items::do_item;
 use items::is_clean;
+use pens::core_of;
+use pens::pen_of;
 use reader::read_item;
 use rules::Finding;
 use rules::Measure;
 use rules::Ran;
 use rules::Sequence;
+use rules::Spot;
 use rules::State;
 use rules::Verdict;
 use text::marked;
@@ -73,8 +75,8 @@ fn place_of(f: Finding, at: usize) -> usize
     if is_clean(f) { 0 } else { at }
 }
 
-// The items of a run. Text is done here, byte by byte: only the cursor moves, and the page is used. So are commands that change little.
-// The core is large: it is kept in one place and changed there, and a state is made of it only at the end.
+// The items of a run. Text is done here, byte by byte: only the cursor moves, and the page is used.
+// The core is large: its pen, its stack and its seed row are kept apart, and a state is made of them only at the end.
 pub fn run_items(
     page: &mut [u8],
     g: Measure,
@@ -86,7 +88,10 @@ pub fn run_items(
     requires { ⌜ (place ≤ length (now s)) × Fits g × Shaped (t .core) × SoundState g t ⌝ }
     ensures { λ r. ⌜ RunsOn (runFrom g allowance 0 place t (now (page .entry)) (drop place (now (s .entry)))) r (now (page .exit)) ⌝ }
 {
-    let mut core = t.core;
+    let core = t.core;
+    let mut pen = pen_of(core);
+    let mut stack = core.stack;
+    let mut seed = core.seed;
     let mut beside = t.beside;
     let mut sequence = t.sequence;
     let mut at = place;
@@ -96,12 +101,12 @@ pub fn run_items(
     let mut ended = false;
     while done < allowance {
         if text_next(s, at, sequence) {
-            let from = core.at;
-            let layout = core.layout;
+            let from = pen.at;
+            let layout = pen.layout;
             let to = typed_at(g, from, layout);
-            let used = marked(core.used, s[at]);
-            core.at = to;
-            core.used = used;
+            let used = marked(pen.used, s[at]);
+            pen.at = to;
+            pen.used = used;
             at += 1;
             done += 1;
             continue;
@@ -112,53 +117,41 @@ pub fn run_items(
         let begins = at;
         let r = read_item(s, at, sequence);
         let item = r.item;
-        let here = core.at;
-        let around = core.layout;
-        let drawing = core.raster;
-        let change = change_item(g, item, here, around, drawing);
-        if let Change::To(there) = change {
-            core.at = there;
-            sequence = r.sequence;
-            at = r.next;
-            done += 1;
-            continue;
-        }
-        if let Change::Laid(there, laid) = change {
-            core.at = there;
-            core.layout = laid;
-            sequence = r.sequence;
-            at = r.next;
-            done += 1;
-            continue;
-        }
-        if let Change::Drawn(raster) = change {
-            core.raster = raster;
-            sequence = r.sequence;
-            at = r.next;
-            done += 1;
-            continue;
-        }
-        if let Change::Fresh(raster) = change {
-            core.raster = raster;
-            core.seed = [0u8; 600];
-            sequence = r.sequence;
-            at = r.next;
-            done += 1;
-            continue;
-        }
-        let a = do_item(page, g, s, item, core, beside);
-        core = a.core;
-        beside = a.beside;
+        let d = do_item(page, g, s, item, pen, beside, &mut seed);
+        let from = pen.at;
+        let depth = pen.depth;
+        let stacking = d.stacking;
+        pen = d.pen;
+        beside = d.beside;
         sequence = r.sequence;
         at = r.next;
         done += 1;
-        finding = a.finding;
-        ended = a.ended;
+        match stacking {
+            Stacking::Kept => {}
+            Stacking::Pushed => {
+                stack[depth] = from;
+                continue;
+            }
+            Stacking::Popped => {
+                let below = pen.depth;
+                let to = stack[below];
+                let free = Spot { x: 0, y: 0 };
+                stack[below] = free;
+                pen.at = to;
+                continue;
+            }
+            Stacking::Emptied => {
+                stack = [Spot { x: 0, y: 0 }; 20];
+            }
+        }
+        finding = d.finding;
+        ended = d.ended;
         if !goes_on(finding, ended) {
             found = place_of(finding, begins);
             break;
         }
     }
+    let core = core_of(pen, stack, seed);
     let state = State {
         core,
         beside,

@@ -118,8 +118,8 @@ enum-told-14 c = search needs
 whole-part-requires-3 : tie.Need-whole-part-requires-3
 whole-part-requires-3 c κs = search needs
 
-resolution-at-requires : tie.Need-resolution-at-requires
-resolution-at-requires c κs = search needs
+push-pop-requires : tie.Need-push-pop-requires
+push-pop-requires c κs = search needs
 
 enum-told-15 : tie.Need-enum-told-15
 enum-told-15 c = search needs
@@ -127,20 +127,35 @@ enum-told-15 c = search needs
 whole-part-requires-4 : tie.Need-whole-part-requires-4
 whole-part-requires-4 c κs = search needs
 
-start-at-requires : tie.Need-start-at-requires
-start-at-requires c κs = search needs
+resolution-at-requires : tie.Need-resolution-at-requires
+resolution-at-requires c κs = search needs
 
 enum-told-16 : tie.Need-enum-told-16
 enum-told-16 c = search needs
 
-end-at-requires : tie.Need-end-at-requires
-end-at-requires c κs = search needs
+whole-part-requires-5 : tie.Need-whole-part-requires-5
+whole-part-requires-5 c κs = search needs
+
+start-at-requires : tie.Need-start-at-requires
+start-at-requires c κs = search needs
 
 enum-told-17 : tie.Need-enum-told-17
 enum-told-17 c = search needs
 
-whole-part-requires-5 : tie.Need-whole-part-requires-5
-whole-part-requires-5 c κs = search needs
+end-at-requires : tie.Need-end-at-requires
+end-at-requires c κs = search needs
+
+enum-told-18 : tie.Need-enum-told-18
+enum-told-18 c = search needs
+
+reset-at-requires : tie.Need-reset-at-requires
+reset-at-requires c κs = search needs
+
+enum-told-19 : tie.Need-enum-told-19
+enum-told-19 c = search needs
+
+whole-part-requires-6 : tie.Need-whole-part-requires-6
+whole-part-requires-6 c κs = search needs
 
 skip-at-requires : tie.Need-skip-at-requires
 skip-at-requires c κs = search needs
@@ -185,19 +200,22 @@ returns-13 : tie.Need-returns-13
 returns-13 c = search (told, c .termination-at .ensures, needs)
 
 returns-14 : tie.Need-returns-14
-returns-14 c = search (told, c .resolution-at .ensures, needs)
+returns-14 c = search (told, c .push-pop .ensures, needs)
 
 returns-15 : tie.Need-returns-15
-returns-15 c = search (told, c .start-at .ensures, needs)
+returns-15 c = search (told, c .resolution-at .ensures, needs)
 
 returns-16 : tie.Need-returns-16
-returns-16 c = search (told, c .end-at .ensures, needs)
+returns-16 c = search (told, c .start-at .ensures, needs)
 
 returns-17 : tie.Need-returns-17
-returns-17 c = search (told, c .skip-at .ensures, needs)
+returns-17 c = search (told, c .end-at .ensures, needs)
 
 returns-18 : tie.Need-returns-18
-returns-18 c = search needs
+returns-18 c = search (told, c .reset-at .ensures, needs)
+
+returns-19 : tie.Need-returns-19
+returns-19 c = search (told, c .skip-at .ensures, needs)
 
 pub changed-spec : {M : Type 1} → statement M
 changed-spec =
@@ -241,14 +259,19 @@ changed-spec =
     termination-at-requires
     enum-told-14
     whole-part-requires-3
-    resolution-at-requires
+    push-pop-requires
     enum-told-15
     whole-part-requires-4
-    start-at-requires
+    resolution-at-requires
     enum-told-16
-    end-at-requires
-    enum-told-17
     whole-part-requires-5
+    start-at-requires
+    enum-told-17
+    end-at-requires
+    enum-told-18
+    reset-at-requires
+    enum-told-19
+    whole-part-requires-6
     skip-at-requires
     returns
     returns-2
@@ -267,4 +290,5 @@ changed-spec =
     returns-15
     returns-16
     returns-17
-    returns-18)
+    returns-18
+    returns-19)

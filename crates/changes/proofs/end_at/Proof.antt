@@ -5,7 +5,7 @@ use Rattle.changes.proofs.end_at.Statement.{statement}
 use Rattle.changes.proofs.end_at.Tie as tie
 
 returns : tie.Need-returns
-returns c = λ g v p l. end g v p l _
+returns c = λ g v p l deep. end g v p l _ deep
 
 pub end-at-spec : {M : Type 1} → statement M
 end-at-spec = tie.close (tie.spec returns)

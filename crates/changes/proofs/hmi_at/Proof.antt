@@ -11,7 +11,7 @@ cast-n : tie.Need-cast-n
 cast-n c = search needs
 
 returns : tie.Need-returns
-returns c = λ g v q e. hmi g v _ _ q _ e
+returns c = λ g v q deep e. hmi g v _ _ q deep _ e
 
 pub hmi-at-spec : {M : Type 1} → statement M
 hmi-at-spec = tie.close (tie.spec mul-n cast-n returns)

@@ -1,5 +1,5 @@
 -- `changes::left_at` meets its contract. Assumes nothing.
-use Rattle.changes.proofs.Changing.{left}
+use Rattle.changes.proofs.Changing.{left, left-barred}
 use borrow.Author.Needs.{needs}
 use Rattle.changes.proofs.left_at.Statement.{statement}
 use Rattle.changes.proofs.left_at.Tie as tie
@@ -8,7 +8,7 @@ cast-if1 : tie.Need-cast-if1
 cast-if1 c = search needs
 
 returns : tie.Need-returns
-returns c = search needs
+returns c = λ v q deep e. search (left-barred, e, needs)
 
 cast-most : tie.Need-cast-most
 cast-most c = search needs
@@ -23,7 +23,7 @@ cast-m : tie.Need-cast-m
 cast-m c = search needs
 
 returns-2 : tie.Need-returns-2
-returns-2 c = λ v q e. search (left, e, needs)
+returns-2 c = λ v q deep e. search (left, e, needs)
 
 pub left-at-spec : {M : Type 1} → statement M
 left-at-spec =

@@ -1,11 +1,11 @@
 -- `changes::right_at` meets its contract. Assumes nothing.
-use Rattle.changes.proofs.Changing.{right}
+use Rattle.changes.proofs.Changing.{right, right-barred}
 use borrow.Author.Needs.{needs}
 use Rattle.changes.proofs.right_at.Statement.{statement}
 use Rattle.changes.proofs.right_at.Tie as tie
 
 returns : tie.Need-returns
-returns c = search needs
+returns c = λ v q deep e. search (right-barred, e, needs)
 
 cast-least : tie.Need-cast-least
 cast-least c = search needs
@@ -17,7 +17,7 @@ into-width-requires : tie.Need-into-width-requires
 into-width-requires c κs = search needs
 
 returns-2 : tie.Need-returns-2
-returns-2 c = λ v q e. search (right, e, needs)
+returns-2 c = λ v q deep e. search (right, e, needs)
 
 pub right-at-spec : {M : Type 1} → statement M
 right-at-spec =

@@ -1,5 +1,5 @@
 -- `changes::skip_at` meets its contract. Assumes nothing.
-use Rattle.changes.proofs.Changing.{skip}
+use Rattle.changes.proofs.Changing.{skip, skip-early}
 use borrow.Author.Needs.{needs}
 use Rattle.changes.proofs.skip_at.Statement.{statement}
 use Rattle.changes.proofs.skip_at.Tie as tie
@@ -17,10 +17,10 @@ into-height-requires : tie.Need-into-height-requires
 into-height-requires c κs = search needs
 
 returns : tie.Need-returns
-returns c = λ v l e. search (skip, e, needs)
+returns c = λ v l deep e. search (skip, e, needs)
 
 returns-2 : tie.Need-returns-2
-returns-2 c = search needs
+returns-2 c = λ v l deep e. search (skip-early, needs)
 
 pub skip-at-spec : {M : Type 1} → statement M
 skip-at-spec =

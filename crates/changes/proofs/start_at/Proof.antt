@@ -1,20 +1,20 @@
 -- `changes::start_at` meets its contract. Assumes nothing.
-use Rattle.changes.proofs.Changing.{start}
+use Rattle.changes.proofs.Changing.{start, start-barred, start-late}
 use borrow.Author.Needs.{needs}
 use Rattle.changes.proofs.start_at.Statement.{statement}
 use Rattle.changes.proofs.start_at.Tie as tie
 
 returns : tie.Need-returns
-returns c = search needs
+returns c = λ g v l deep e. search (start-barred, e, needs)
 
 returns-2 : tie.Need-returns-2
-returns-2 c = search needs
+returns-2 c = λ g v l deep e. search (start-late, e, needs)
 
 margin-at-requires : tie.Need-margin-at-requires
 margin-at-requires c κs = search needs
 
 returns-3 : tie.Need-returns-3
-returns-3 c = λ g v l e. search (start, e, needs)
+returns-3 c = λ g v l deep e. search (start, e, needs)
 
 pub start-at-spec : {M : Type 1} → statement M
 start-at-spec = tie.close (tie.spec returns returns-2 margin-at-requires returns-3)

@@ -1,5 +1,5 @@
 -- `codes::clear_margins` meets its contract. Assumes nothing.
-use Rattle.codes.proofs.Moves.{margins-cleared}
+use Rattle.codes.proofs.Moves.{margins-set}
 use borrow.Author.Needs.{needs}
 use Rattle.codes.proofs.clear_margins.Statement.{statement}
 use Rattle.codes.proofs.clear_margins.Tie as tie
@@ -8,7 +8,7 @@ width-requires : tie.Need-width-requires
 width-requires c κs = search needs
 
 returns : tie.Need-returns
-returns c = search (margins-cleared, needs)
+returns c = search (margins-set, needs)
 
 pub clear-margins-spec : {M : Type 1} → statement M
 clear-margins-spec = tie.close (tie.spec width-requires returns)

@@ -1,29 +1,17 @@
 -- `codes::code_feed` meets its contract. Assumes nothing.
-use Rattle.common.proofs.Choices.{choices}
-use Rattle.state.proofs.Flags.{flags}
-use Rattle.rules.specs.Codes.{coded}
+use Rattle.codes.proofs.Moves.{fed}
 use borrow.Author.Needs.{needs}
 use Rattle.codes.proofs.code_feed.Statement.{statement}
 use Rattle.codes.proofs.code_feed.Tie as tie
 
-is-either-requires : tie.Need-is-either-requires
-is-either-requires c κs = search needs
+before-feed-requires : tie.Need-before-feed-requires
+before-feed-requires c κs = search needs
 
-return-and-feed-requires : tie.Need-return-and-feed-requires
-return-and-feed-requires c κs = search needs
-
-line-feed-requires : tie.Need-line-feed-requires
-line-feed-requires c κs = search needs
+feed-at-requires : tie.Need-feed-at-requires
+feed-at-requires c κs = search needs
 
 returns : tie.Need-returns
-unfolding coded
-returns c = search (choices, flags, needs)
-
-returns-2 : tie.Need-returns-2
-unfolding coded
-returns-2 c = search (choices, flags, needs)
+returns c = search (fed, needs)
 
 pub code-feed-spec : {M : Type 1} → statement M
-code-feed-spec =
-    tie.close
-    (tie.spec is-either-requires return-and-feed-requires line-feed-requires returns returns-2)
+code-feed-spec = tie.close (tie.spec before-feed-requires feed-at-requires returns)

@@ -4,18 +4,18 @@ use borrow.Author.Needs.{needs}
 use Rattle.codes.proofs.code_page.Statement.{statement}
 use Rattle.codes.proofs.code_page.Tie as tie
 
+before-feed-requires : tie.Need-before-feed-requires
+before-feed-requires c κs = search needs
+
 first-line-at-requires : tie.Need-first-line-at-requires
 first-line-at-requires c κs = search needs
 
-before-page-requires : tie.Need-before-page-requires
-before-page-requires c κs = search needs
-
-to-y-requires : tie.Need-to-y-requires
-to-y-requires c κs = search needs
+into-height-requires : tie.Need-into-height-requires
+into-height-requires c κs = search needs
 
 returns : tie.Need-returns
 returns c = search (paged, needs)
 
 pub code-page-spec : {M : Type 1} → statement M
 code-page-spec =
-    tie.close (tie.spec first-line-at-requires before-page-requires to-y-requires returns)
+    tie.close (tie.spec before-feed-requires first-line-at-requires into-height-requires returns)

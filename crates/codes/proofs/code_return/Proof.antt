@@ -1,34 +1,24 @@
 -- `codes::code_return` meets its contract. Assumes nothing.
-use Rattle.common.proofs.Choices.{choices}
-use Rattle.state.proofs.Flags.{flags}
-use Rattle.rules.specs.Codes.{coded}
+use Rattle.codes.proofs.Moves.{return-fed, return-alone}
 use borrow.Author.Needs.{needs}
 use Rattle.codes.proofs.code_return.Statement.{statement}
 use Rattle.codes.proofs.code_return.Tie as tie
 
+return-at-requires : tie.Need-return-at-requires
+return-at-requires c κs = search needs
+
 is-either-requires : tie.Need-is-either-requires
 is-either-requires c κs = search needs
 
-return-and-feed-requires : tie.Need-return-and-feed-requires
-return-and-feed-requires c κs = search needs
-
-carriage-return-requires : tie.Need-carriage-return-requires
-carriage-return-requires c κs = search needs
+feed-at-requires : tie.Need-feed-at-requires
+feed-at-requires c κs = search needs
 
 returns : tie.Need-returns
-unfolding coded
-returns c = search (choices, flags, needs)
+returns c = search (return-fed, needs)
 
 returns-2 : tie.Need-returns-2
-unfolding coded
-returns-2 c = search (choices, flags, needs)
+returns-2 c = search (return-alone, needs)
 
 pub code-return-spec : {M : Type 1} → statement M
 code-return-spec =
-    tie.close
-    (tie.spec
-    is-either-requires
-    return-and-feed-requires
-    carriage-return-requires
-    returns
-    returns-2)
+    tie.close (tie.spec return-at-requires is-either-requires feed-at-requires returns returns-2)

@@ -1,5 +1,5 @@
 -- `items::do_code_byte` meets its contract. Assumes nothing.
-use Rattle.items.proofs.Deeds.{code-known, code-ignored}
+use Rattle.items.proofs.Penned.{code-byte, code-other}
 use borrow.Author.Needs.{needs}
 use Rattle.items.proofs.do_code_byte.Statement.{statement}
 use Rattle.items.proofs.do_code_byte.Tie as tie
@@ -13,17 +13,17 @@ enum-known-k c = search needs
 enum-told : tie.Need-enum-told
 enum-told c = search needs
 
-nothing-done-requires : tie.Need-nothing-done-requires
-nothing-done-requires c κs = search needs
+kept-requires : tie.Need-kept-requires
+kept-requires c κs = search needs
 
 returns : tie.Need-returns
-returns c = search (code-known, code-ignored, needs)
+returns c = code-other _ _ _ _ _ _ (c .before .before .before .code-of .ensures) (c .before .enum-told .given .1) (c .kept .ensures)
 
 do-code-requires : tie.Need-do-code-requires
 do-code-requires c κs = search needs
 
 returns-2 : tie.Need-returns-2
-returns-2 c = search (code-known, code-ignored, needs)
+returns-2 c = code-byte _ _ _ _ _ _ _ (c .before .before .before .before .code-of .ensures) (c .before .before .k .given .1) (c .do-code .ensures)
 
 pub do-code-byte-spec : {M : Type 1} → statement M
 do-code-byte-spec =
@@ -32,7 +32,7 @@ do-code-byte-spec =
     code-of-requires
     enum-known-k
     enum-told
-    nothing-done-requires
+    kept-requires
     returns
     do-code-requires
     returns-2)

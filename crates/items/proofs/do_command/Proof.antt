@@ -1,5 +1,5 @@
 -- `items::do_command` meets its contract. Assumes nothing.
-use Rattle.items.proofs.Deeds.{command-told, command-unknown}
+use Rattle.items.proofs.Penned.{command-told, command-unknown}
 use borrow.Author.Needs.{needs}
 use Rattle.items.proofs.do_command.Statement.{statement}
 use Rattle.items.proofs.do_command.Tie as tie
@@ -31,26 +31,26 @@ do-row-requires c κs = search needs
 enum-told : tie.Need-enum-told
 enum-told c = search needs
 
-nothing-done-requires : tie.Need-nothing-done-requires
-nothing-done-requires c κs = search needs
+kept-requires : tie.Need-kept-requires
+kept-requires c κs = search needs
 
 returns : tie.Need-returns
-returns c = search (command-told, c .do-valued .ensures, needs)
+returns c = command-told _ _ _ _ _ _ _ _ _ _ _ (c .before .before .before .k .given .1) (c .do-valued .ensures _ _)
 
 returns-2 : tie.Need-returns-2
-returns-2 c = search (command-told, c .do-method .ensures, needs)
+returns-2 c = command-told _ _ _ _ _ _ _ _ _ _ _ (c .before .before .k2 .given .1) (c .do-method .ensures _ _ _ _)
 
 returns-3 : tie.Need-returns-3
-returns-3 c = search (command-told, c .do-print .ensures, needs)
+returns-3 c = command-told _ _ _ _ _ _ _ _ _ _ _ (c .before .before .k3 .given .1) (c .do-print .ensures _ _)
 
 same-length : tie.Need-same-length
 same-length c = search needs
 
 returns-4 : tie.Need-returns-4
-returns-4 c = search (command-told, command-unknown, needs)
+returns-4 c = command-told _ _ _ _ _ _ _ _ _ _ _ (c .before .before .before .before .before .before .k4 .given .1) (c .before .before .do-row .ensures)
 
 returns-5 : tie.Need-returns-5
-returns-5 c = search (command-told, command-unknown, needs)
+returns-5 c = command-unknown _ _ _ _ _ _ _ _ (c .before .enum-told .given .1) (c .kept .ensures)
 
 pub do-command-spec : {M : Type 1} → statement M
 do-command-spec =
@@ -65,7 +65,7 @@ do-command-spec =
     enum-known-k-4
     do-row-requires
     enum-told
-    nothing-done-requires
+    kept-requires
     returns
     returns-2
     returns-3

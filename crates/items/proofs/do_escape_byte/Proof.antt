@@ -1,5 +1,5 @@
 -- `items::do_escape_byte` meets its contract. Assumes nothing.
-use Rattle.items.proofs.Deeds.{escape-known, escape-unknown}
+use Rattle.items.proofs.Penned.{escape-byte, escape-other}
 use borrow.Author.Needs.{needs}
 use Rattle.items.proofs.do_escape_byte.Statement.{statement}
 use Rattle.items.proofs.do_escape_byte.Tie as tie
@@ -13,17 +13,17 @@ enum-known-k c = search needs
 enum-told : tie.Need-enum-told
 enum-told c = search needs
 
-nothing-done-requires : tie.Need-nothing-done-requires
-nothing-done-requires c κs = search needs
+kept-requires : tie.Need-kept-requires
+kept-requires c κs = search needs
 
 returns : tie.Need-returns
-returns c = search (escape-known, escape-unknown, needs)
+returns c = escape-other _ _ _ _ _ _ _ (c .before .before .before .escape-of .ensures) (c .before .enum-told .given .1) (c .kept .ensures)
 
 do-escape-requires : tie.Need-do-escape-requires
 do-escape-requires c κs = search needs
 
 returns-2 : tie.Need-returns-2
-returns-2 c = search (escape-known, escape-unknown, needs)
+returns-2 c = escape-byte _ _ _ _ _ _ _ _ _ (c .before .before .before .before .before .escape-of .ensures) (c .before .before .before .k .given .1) (c .do-escape .ensures)
 
 pub do-escape-byte-spec : {M : Type 1} → statement M
 do-escape-byte-spec =
@@ -32,7 +32,7 @@ do-escape-byte-spec =
     escape-of-requires
     enum-known-k
     enum-told
-    nothing-done-requires
+    kept-requires
     returns
     do-escape-requires
     returns-2)

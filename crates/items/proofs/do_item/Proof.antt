@@ -1,8 +1,8 @@
 -- `items::do_item` meets its contract. Assumes nothing.
+use native.Mathlib.Omega.{arith}
 use mathlib.Core.Path.{ap}
 use Rattle.reader.specs.Items.{fromOf, toOf}
-use Rattle.items.proofs.Deeds.{item-bytes, item-command}
-use native.Mathlib.Omega.{arith}
+use Rattle.items.proofs.Penned.{item-bytes, item-command}
 use borrow.Author.Needs.{needs}
 use Rattle.items.proofs.do_item.Statement.{statement}
 use Rattle.items.proofs.do_item.Tie as tie
@@ -14,7 +14,7 @@ do-bytes-requires : tie.Need-do-bytes-requires
 do-bytes-requires c κs = search needs
 
 returns : tie.Need-returns
-returns c = search (item-bytes, needs)
+returns c = item-bytes _ _ (c .before .before .before .before .before .args .m) (c .before .before .before .before .before .args .s .now) (c .before .before .before .before .before .args .i) _ _ _ _ (c .before .before .match .keys2) (c .do-bytes .ensures)
 
 sub-do-command : tie.Need-sub-do-command
 sub-do-command c = omega (arith, ap fromOf (c .before .before .i .given .1), ap toOf (c .before .before .i .given .1))
@@ -32,7 +32,7 @@ same-length : tie.Need-same-length
 same-length c = search needs
 
 returns-2 : tie.Need-returns-2
-returns-2 c = search (item-command, needs)
+returns-2 c = item-command _ _ _ _ _ _ _ _ _ _ _ _ _ (c .before .before .before .before .before .before .before .i .given .1) (c .before .before .do-command .ensures)
 
 pub do-item-spec : {M : Type 1} → statement M
 do-item-spec =

@@ -1,5 +1,6 @@
 -- `items::do_row` meets its contract. Assumes nothing.
-use Rattle.items.proofs.Deeds.{kept-long, row-negative, row-done}
+use Rattle.items.proofs.Deeds.{kept-long}
+use Rattle.items.proofs.Penned.{row-barred, row-deed}
 use borrow.Author.Needs.{needs}
 use Rattle.items.proofs.do_row.Statement.{statement}
 use Rattle.items.proofs.do_row.Tie as tie
@@ -7,11 +8,11 @@ use Rattle.items.proofs.do_row.Tie as tie
 whole-negative-requires : tie.Need-whole-negative-requires
 whole-negative-requires c κs = search needs
 
-nothing-done-requires : tie.Need-nothing-done-requires
-nothing-done-requires c κs = search needs
+kept-requires : tie.Need-kept-requires
+kept-requires c κs = search needs
 
 returns : tie.Need-returns
-returns c = search (row-negative, needs)
+returns c = row-barred _ _ _ _ _ _ _ _ _ (c .before .before .whole-negative .ensures) (c .before .if1 .taken) (c .kept .ensures)
 
 begun-raster-requires : tie.Need-begun-raster-requires
 begun-raster-requires c κs = search needs
@@ -23,7 +24,7 @@ begin-seed-requires : tie.Need-begin-seed-requires
 begin-seed-requires c κs = search needs
 
 decode-requires : tie.Need-decode-requires
-decode-requires c κs = kept-long (c .before .before .before .before .before .before .before .before .before .before .before .args .c .raster .started) (c .before .before .before .before .before .before .before .before .before .before .before .args .c .seed) _ (search (needs, c .before .before .before .before .before .before .before .before .before .before .before .good .1 .1 .1 .1 .0 .1 .1 .1 .1 .1 .1 .1 .1, c .before .before .before .before .before .before .before .before .before .before .before .good .1 .1 .1 .1 .0 .1 .1 .1 .1 .1 .1 .1 .1 .0) depth 12) (c .before .begin-seed .ensures)
+decode-requires c κs = kept-long (c .before .before .before .before .before .before .before .before .before .before .before .args .p .raster .started) (c .before .before .before .before .before .before .before .before .before .before .before .args .seed .now) _ (c .before .before .before .before .before .before .before .before .before .before .before .pre .3) (c .before .begin-seed .ensures)
 
 paint-row-requires : tie.Need-paint-row-requires
 paint-row-requires c κs = search needs
@@ -31,18 +32,21 @@ paint-row-requires c κs = search needs
 row-finding-requires : tie.Need-row-finding-requires
 row-finding-requires c κs = search needs
 
+kept-requires-2 : tie.Need-kept-requires-2
+kept-requires-2 c κs = search needs
+
 same-length : tie.Need-same-length
 same-length c = search needs
 
 returns-2 : tie.Need-returns-2
-returns-2 c = search (row-done, c .before .before .before .before .before .before .before .before .before .before .before .before .before .before .before .before .before .before .before .before .good .1 .1 .1 .1 .0 .1 .1 .1 .1 .1 .1 .1 .1, c .before .before .before .before .before .before .before .before .before .before .before .before .before .before .before .before .before .before .before .before .good .1 .1 .1 .1 .0 .1 .1 .1 .1 .1 .1 .1 .1 .0, needs) depth 12
+returns-2 c = row-deed _ _ _ _ _ _ _ _ _ _ _ _ _ _ _ _ (c .before .before .before .before .before .before .before .before .before .before .before .before .before .before .before .before .before .before .before .before .pre .0) (c .before .before .before .before .before .before .before .before .before .before .before .before .before .before .before .before .before .before .before .before .pre .2) (c .before .before .before .before .before .before .before .before .before .before .before .before .before .before .before .before .before .before .before .before .pre .3) (c .before .before .before .before .before .before .before .before .before .before .before .before .before .before .before .before .before .whole-negative .ensures) (c .before .before .before .before .before .before .before .before .before .before .before .before .before .before .before .before .if1 .left) (c .before .before .before .before .before .before .before .before .before .before .before .before .before .begun-raster .ensures) (c .before .before .before .before .before .before .before .before .before .before .before .before .row-at .ensures) (c .before .before .before .before .before .before .before .before .before .before .begin-seed .ensures) (c .before .before .before .before .before .before .before .before .decode .ensures) (c .before .before .before .before .paint-row .ensures) (c .before .row-finding .ensures) (c .kept2 .ensures)
 
 pub do-row-spec : {M : Type 1} → statement M
 do-row-spec =
     tie.close
     (tie.spec
     whole-negative-requires
-    nothing-done-requires
+    kept-requires
     returns
     begun-raster-requires
     row-at-requires
@@ -50,5 +54,6 @@ do-row-spec =
     decode-requires
     paint-row-requires
     row-finding-requires
+    kept-requires-2
     same-length
     returns-2)

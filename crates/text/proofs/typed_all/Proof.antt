@@ -1,22 +1,19 @@
 -- `text::typed_all` meets its contract. The loop's invariant: what is left, typed behind the cursor and the flag so far, makes the whole; the measure is what is left. Assumes nothing.
-use mathlib.Core.Path.{_≡_}
 use Prim.Native.Nat.{_-_}
-use lib.ListN.{length, drop}
-use Rattle.rules.specs.States.{withAt, withUsed}
-use Rattle.rules.specs.Codes.{typedAll}
-use Rattle.text.proofs.Typing.{typing-more, typing-ends}
+use lib.ListN.{length}
+use Rattle.text.proofs.Typing.{Typing, typing-first, typing-more, typing-ends}
 use borrow.Author.Needs.{needs}
 use Rattle.text.proofs.typed_all.Statement.{statement}
 use Rattle.text.proofs.typed_all.Tie as tie
 
 abbrev Inv-loop : tie.InvT-loop
-Inv-loop g s c l at₀ used₀ i₀ at used i = typedAll g s c ≡ typedAll g (drop i s) (withUsed used (withAt at c))
+Inv-loop g s l was at₀ used₀ i₀ at used i = Typing g s at₀ l was at used i
 
 abbrev μ-loop : tie.MeasureT-loop
-μ-loop g s c l at₀ used₀ i₀ at used i = length s - i
+μ-loop g s l was at₀ used₀ i₀ at used i = length s - i
 
 loop-holds : tie.Need-loop-holds Inv-loop μ-loop
-loop-holds c = search needs
+loop-holds c = search (typing-first, needs)
 
 typed-at-requires : tie.Need-typed-at-requires Inv-loop μ-loop
 typed-at-requires c κs = search needs
