@@ -1,6 +1,6 @@
 -- What each command changes. Assumes nothing.
 use Prim.{tt}
-use mathlib.Core.Path.{_≡_, refl, sym, ap, _∙_}
+use mathlib.Core.Path.{_≡_, refl, ap, _∙_}
 use mathlib.Core.Bool.{Bool, true, false, cond}
 use Prim.Native.Nat.{ℕ, _+_, _*_, _/_, _≤_, _<_, min, max}
 use native.Mathlib.Omega.{arith}
@@ -26,7 +26,7 @@ use Rattle.rules.specs.Effects.{target, displacement, lineRates, startedAt, bar
 use Rattle.rules.specs.Acts.{besideAfter}
 use Rattle.changes.specs.declared.Change.{Change}
 use Rattle.changes.specs.declared.Change.the-variants.{To, Laid, Drawn, Fresh, Reset, Pushed, Popped, Barred}
-use Rattle.changes.specs.Changed.{acrossSpot, downSpot, Goes, Changed}
+use Rattle.changes.specs.Changed.{acrossSpot, downSpot, Changed}
 
 -- what holds of the kind that a `match` has told holds of the command's kind
 pub told : (g : Measure) (k j : Kind) (v : Value) (p : Spot) (l : Layout) (q : Raster) (n : ℕ) (d : Change) → k ≡ j → Changed g j v p l q n d → Changed g k v p l q n d

@@ -18,8 +18,7 @@ use Rattle.rules.specs.declared.Code.{Code}
 use Rattle.rules.specs.declared.Code.the-variants.{CarriageReturn, LineFeed, FormFeed, Backspace, Tab}
 use Rattle.rules.specs.declared.Escape.{Escape}
 use Rattle.rules.specs.declared.Escape.the-variants.{Reset, ClearMargins, HalfLine}
-use Rattle.rules.specs.declared.Command.{Command}
-use Rattle.rules.specs.declared.Command.the-variants.{Valued, Method, Print, Row, Unknown}
+use Rattle.rules.specs.declared.Command.the-variants.{Valued, Method, Print, Row}
 use Rattle.rules.specs.declared.Finding.{Finding}
 use Rattle.rules.specs.declared.Finding.the-variants.{Nothing, NotCarried, NotAllowed, EndsInside, CannotStand, StackLimit, NotNow, DamagedRow}
 use Rattle.rules.specs.declared.Spot.{Spot}
@@ -171,14 +170,6 @@ module _ (g : Measure) where
   unfolding meanCommand gate bar besideAfter next shown endsPage
   print-done v p c d m t f e h q = rw (← f, e, h) (one-act (print p) Nothing m c q)
 
-  -- an item that a `match` has told
-  pub bytes-told : (i j : Item) (c : Core) (m : Beside) (r : Acted) → i ≡ j → ActedFor g (meanBytes g j c m) c r → ActedFor g (meanBytes g i c m) c r
-  bytes-told i j c m r e h p = rw e (h p)
-
-  -- a broken piece, or a command that is not its to do
-  pub bytes-nothing : (i j : Item) (f : Finding) (c : Core) (m : Beside) (r : Acted) → i ≡ j → meanBytes g j c m ≡ nothingDone f m → r ≡ actedOf c m f false → ActedFor g (meanBytes g i c m) c r
-  bytes-nothing i j f c m r e h k p = rw (e, h, k) (done-nothing f c m p)
-
 module _ (v : Value) (c : Core) (m : Beside) (t : Bool) (o : t ≡ isNegative whole v) where
   -- *b#M with a negative value
   pub method-negative : (r : Acted) → t ≡ true → r ≡ actedOf c m NotAllowed false → (g : Measure) (p : List ℕ) → ActedFor g (meanCommand g (Method v) p c m) c r
@@ -194,16 +185,6 @@ module _ (v : Value) (c : Core) (m : Beside) (t : Bool) (o : t ≡ isNegative wh
   pub method-done : (n : ℕ) → t ≡ false → n ≡ wholePart v → n ≤ 3 → (g : Measure) (p : List ℕ) → ActedFor g (meanCommand g (Method v) p c m) c (actedOf c (besideOf n) Nothing false)
   unfolding meanCommand acted pageAfter nextAll showAll
   method-done n e h l g p q = rw (← o, e, ← h, le-leb n 3 l) (record { given = refl; page = refl })
-
-module _ (g : Measure) (p : List ℕ) (c : Core) (m : Beside) (page : List ℕ) where
-  -- a command that a `match` has told
-  pub command-told : (k j : Command) (r : Acted) (after : List ℕ) → k ≡ j → ActedOn g (meanCommand g j p c m) c page r after → ActedOn g (meanCommand g k p c m) c page r after
-  command-told k j r after e h = rw e h
-
-  -- one that is not carried
-  pub command-unknown : (k : Command) (r : Acted) → k ≡ Unknown → r ≡ actedOf c m NotCarried false → ActedOn g (meanCommand g k p c m) c page r page
-  unfolding meanCommand
-  command-unknown k r e h = rw (e, h) (done-nothing g NotCarried c m page)
 
 -- the first bytes of a row painted, with so many dots to a bit
 pub painting-of : (w n : ℕ) (row page after : List ℕ) (dots d from line : ℕ) → dots ≡ d → n ≡ w → after ≡ painted w (take n row) dots from line page → after ≡ painted w (take w row) d from line page
@@ -221,16 +202,6 @@ bytes-mean g s (found.Code b) c m h = refl
 bytes-mean g s (found.Two b) c m h = refl
 bytes-mean g s (found.Command k from to) c m h = absurd (miss others 3 tt h)
 bytes-mean g s (found.Broken f) c m h = refl
-
--- what its bytes do, the item does
-pub item-bytes : (g : Measure) (s : List ℕ) (i : Item) (c : Core) (m : Beside) (r : Acted) → OneOf others (tagOf the-type i) → ActedFor g (meanBytes g i c m) c r → (page : List ℕ) → ActedOn g (mean g (itemIn s i) c m) c page r page
-item-bytes g s i c m r h k page = rw (← bytes-mean g s i c m h) (k page)
-
--- a command with the part of the stream that is its payload
-pub item-command : (g : Measure) (s page : List ℕ) (i : Item) (k : Command) (from to : ℕ) (c : Core) (m : Beside) (r : Acted) (after : List ℕ) → i ≡ found.Command k from to
-    → ActedOn g (meanCommand g k (take (to - from) (drop from s)) c m) c page r after → ActedOn g (mean g (itemIn s i) c m) c page r after
-unfolding mean
-item-command g s page i k from to c m r after e h = rw e h
 
 -- a list of zeros
 zeros : (l : List ℕ) → allZero l ≡ true → l ≡ replicate (length l) 0

@@ -1,6 +1,6 @@
 -- What an item does to pen, stack and seed row, from what it does to the core. Assumes nothing.
 use Prim.{tt}
-use mathlib.Core.Path.{_≡_, refl, sym, ap, _∙_}
+use mathlib.Core.Path.{_≡_, refl, sym}
 use mathlib.Core.Bool.{Bool, true, false, cond, not, _||_}
 use mathlib.Core.List.{List, []}
 use Prim.Native.Nat.{ℕ, _+_, _-_, _/_, _≤_, _<_, min}
@@ -62,8 +62,8 @@ use Rattle.items.specs.Deeds.{deedOf, wholeOf, OnStack, DeedOn, DeedFor,
 use Rattle.items.proofs.Deeds.{others, done-nothing, code-done, escape-done, text-done, code-known, code-ignored, escape-known, escape-unknown, valued-negative, valued-done, print-negative, print-done, method-negative, method-beyond, method-done, bytes-mean, row-negative, row-done}
 
 -- a pen of these parts
-abbrev pub penWith : Pen → Spot → Layout → Raster → Bool → ℕ → Pen
-penWith p at l r u n = record { at = at; layout = l; raster = r; used = u; depth = n }
+abbrev pub penWith : Spot → Layout → Raster → Bool → ℕ → Pen
+penWith at l r u n = record { at = at; layout = l; raster = r; used = u; depth = n }
 
 module _ (g : Measure) (p : Pen) (m : Beside) where
   -- a meaning that is the same in every core
@@ -76,11 +76,11 @@ module _ (g : Measure) (p : Pen) (m : Beside) where
 
   -- a control code
   pub code-deed : (k : Code) (at : Spot) (t u : Bool) → Moved g k (p .at) (p .layout) at → ((c : Core) → t ≡ endsPage (control k) c) → u ≡ cond t false (p .used)
-      → (b : List ℕ) → DeedFor g (λ (c : Core). gate g (control k) c m) p b (deedOf (penWith p at (p .layout) (p .raster) u (p .depth)) m Nothing t Kept) b
+      → (b : List ℕ) → DeedFor g (λ (c : Core). gate g (control k) c m) p b (deedOf (penWith at (p .layout) (p .raster) u (p .depth)) m Nothing t Kept) b
   code-deed k at t u e h i b page = record {
     acted = λ l.
         let c = coreOf p l b in
-        let d = coreOf (penWith p at (p .layout) (p .raster) u (p .depth)) l b in
+        let d = coreOf (penWith at (p .layout) (p .raster) u (p .depth)) l b in
         let z : d ≡ coded g k c = rw (i, h c) (e c refl refl) in
         code-done g k c d m t z h page;
     placed = tt;
@@ -94,16 +94,16 @@ module _ (g : Measure) (p : Pen) (m : Beside) where
   code-other b x r e f h s page = rw h (record { acted = λ l. code-ignored g b x (coreOf p l s) m (actedOf (coreOf p l s) m Nothing false) e f refl page; placed = tt })
 
   -- ESC 9
-  pub margins-deed : (n : Layout) (r : Deed) → n ≡ withLeft 0 (withRight (LW g) (p .layout)) → r ≡ deedOf (penWith p (p .at) n (p .raster) (p .used) (p .depth)) m Nothing false Kept
+  pub margins-deed : (n : Layout) (r : Deed) → n ≡ withLeft 0 (withRight (LW g) (p .layout)) → r ≡ deedOf (penWith (p .at) n (p .raster) (p .used) (p .depth)) m Nothing false Kept
       → (b : List ℕ) → DeedFor g (λ (c : Core). gate g (escape ClearMargins) c m) p b r b
   unfolding escaped endsPage besideAfter
-  margins-deed n r e h b page = rw (h, e) (record { acted = λ l. escape-done g ClearMargins (coreOf p l b) (coreOf (penWith p (p .at) (withLeft 0 (withRight (LW g) (p .layout))) (p .raster) (p .used) (p .depth)) l b) m m false refl refl refl page; placed = tt })
+  margins-deed n r e h b page = rw (h, e) (record { acted = λ l. escape-done g ClearMargins (coreOf p l b) (coreOf (penWith (p .at) (withLeft 0 (withRight (LW g) (p .layout))) (p .raster) (p .used) (p .depth)) l b) m m false refl refl refl page; placed = tt })
 
   -- ESC =
-  pub half-deed : (at : Spot) (r : Deed) → at ≡ atY (intoHeight g (p .at .y + half (p .layout .vmi))) (p .at) → r ≡ deedOf (penWith p at (p .layout) (p .raster) (p .used) (p .depth)) m Nothing false Kept
+  pub half-deed : (at : Spot) (r : Deed) → at ≡ atY (intoHeight g (p .at .y + half (p .layout .vmi))) (p .at) → r ≡ deedOf (penWith at (p .layout) (p .raster) (p .used) (p .depth)) m Nothing false Kept
       → (b : List ℕ) → DeedFor g (λ (c : Core). gate g (escape HalfLine) c m) p b r b
   unfolding escaped endsPage besideAfter
-  half-deed at r e h b page = rw (h, e) (record { acted = λ l. escape-done g HalfLine (coreOf p l b) (coreOf (penWith p (atY (intoHeight g (p .at .y + half (p .layout .vmi))) (p .at)) (p .layout) (p .raster) (p .used) (p .depth)) l b) m m false refl refl refl page; placed = tt })
+  half-deed at r e h b page = rw (h, e) (record { acted = λ l. escape-done g HalfLine (coreOf p l b) (coreOf (penWith (atY (intoHeight g (p .at .y + half (p .layout .vmi))) (p .at)) (p .layout) (p .raster) (p .used) (p .depth)) l b) m m false refl refl refl page; placed = tt })
 
   -- a two-byte command that a `match` has told
   pub escape-told : (k j : Escape) (b : List ℕ) (r : Deed) (b′ : List ℕ) → k ≡ j → DeedFor g (λ (c : Core). gate g (escape j) c m) p b r b′ → DeedFor g (λ (c : Core). gate g (escape k) c m) p b r b′
@@ -145,14 +145,14 @@ module _ (g : Measure) (p : Pen) (m : Beside) where
   pub print-barred : (v : Value) (s : List ℕ) (r : Deed) (t : Bool) → t ≡ isNegative whole v → t ≡ true → r ≡ deedOf p m NotAllowed false Kept → (b : List ℕ) → DeedFor g (λ (c : Core). meanCommand g (Print v) s c m) p b r b
   print-barred v s r t e f h b page = rw h (record { acted = λ l. print-negative g v s (coreOf p l b) m (actedOf (coreOf p l b) m NotAllowed false) t e f refl page; placed = tt })
 
-  pub print-deed : (v : Value) (s : List ℕ) (x : Typed) (r : Deed) (t : Bool) → t ≡ isNegative whole v → t ≡ false → TypedAll g s (p .at) (p .layout) (p .used) x → r ≡ deedOf (penWith p (x .at) (p .layout) (p .raster) (x .used) (p .depth)) m Nothing false Kept
+  pub print-deed : (v : Value) (s : List ℕ) (x : Typed) (r : Deed) (t : Bool) → t ≡ isNegative whole v → t ≡ false → TypedAll g s (p .at) (p .layout) (p .used) x → r ≡ deedOf (penWith (x .at) (p .layout) (p .raster) (x .used) (p .depth)) m Nothing false Kept
       → (b : List ℕ) → DeedFor g (λ (c : Core). meanCommand g (Print v) s c m) p b r b
-  print-deed v s x r t e f i h b page = rw h (record { acted = λ l. print-done g v s (coreOf p l b) (coreOf (penWith p (x .at) (p .layout) (p .raster) (x .used) (p .depth)) l b) m t e f (i (coreOf p l b) refl refl refl) page; placed = tt })
+  print-deed v s x r t e f i h b page = rw h (record { acted = λ l. print-done g v s (coreOf p l b) (coreOf (penWith (x .at) (p .layout) (p .raster) (x .used) (p .depth)) l b) m t e f (i (coreOf p l b) refl refl refl) page; placed = tt })
 
   -- a space or a text byte
-  pub text-deed : (b : ℕ) (at : Spot) (u : Bool) (r : Deed) → at ≡ typedSpot g (p .at) (p .layout) → u ≡ (p .used || not (eqb b 32)) → r ≡ deedOf (penWith p at (p .layout) (p .raster) u (p .depth)) m Nothing false Kept
+  pub text-deed : (b : ℕ) (at : Spot) (u : Bool) (r : Deed) → at ≡ typedSpot g (p .at) (p .layout) → u ≡ (p .used || not (eqb b 32)) → r ≡ deedOf (penWith at (p .layout) (p .raster) u (p .depth)) m Nothing false Kept
       → (s : List ℕ) → DeedFor g (λ (c : Core). mean g (rule.text b) c m) p s r s
-  text-deed b at u r e f h s page = rw h (record { acted = λ l. text-done g b (coreOf p l s) (coreOf (penWith p at (p .layout) (p .raster) u (p .depth)) l s) m (typed-parts g b (coreOf p l s) at u e f) page; placed = tt })
+  text-deed b at u r e f h s page = rw h (record { acted = λ l. text-done g b (coreOf p l s) (coreOf (penWith at (p .layout) (p .raster) u (p .depth)) l s) m (typed-parts g b (coreOf p l s) at u e f) page; placed = tt })
 
   -- an item that a `match` has told
   pub bytes-told : (i j : Item) (b : List ℕ) (r : Deed) (b′ : List ℕ) → i ≡ j → DeedFor g (λ (c : Core). meanBytes g j c m) p b r b′ → DeedFor g (λ (c : Core). meanBytes g i c m) p b r b′
@@ -180,7 +180,7 @@ module _ (g : Measure) (p : Pen) (m : Beside) where
   pub row-deed : (v : Value) (s : List ℕ) (q : Raster) (to : Spot) (b seed after page painting : List ℕ) (t o : Bool) (f : Finding) (r : Deed) → g .wide ≤ 600 → allZero (drop (g .wide) b) ≡ true → length b ≡ 600 → o ≡ isNegative whole v → o ≡ false
       → q ≡ rasterBegun (p .raster) → to ≡ rowSpot g (p .at) q → seed ≡ cond (p .raster .started) b zeroSeed → Decoded (m .method) (min (g .wide) 600) s seed after t
       → painting ≡ painted (g .wide) (take (g .wide) after) (300 / q .resolution) (q .margin / dotUnit) (p .at .y / dotUnit) page → f ≡ cond t Nothing DamagedRow
-      → r ≡ deedOf (penWith p to (p .layout) q true (p .depth)) m f false Kept
+      → r ≡ deedOf (penWith to (p .layout) q true (p .depth)) m f false Kept
       → DeedOn g (λ (c : Core). meanCommand g (Row v) s c m) p b page r after painting
   row-deed v s q to b seed after page painting t o f r fits clear long i e h k x y z a w = rw w (record { acted = λ l. row-done g v s (coreOf p l b) m q to seed after page painting t o f fits clear long i e h k x y z a; placed = tt })
 
@@ -208,26 +208,26 @@ reset-deed g p f q b e h m page = rw (h, e) (record { acted = λ l. escape-done 
 
 -- ---- a change made
 module _ (p : Pen) (m : Beside) (d : Change) where
-  pub made-to : (at : Spot) (b : List ℕ) (r : Deed) → d ≡ To at → r ≡ deedOf (penWith p at (p .layout) (p .raster) (p .used) (p .depth)) m Nothing false Kept → MadeBy d p m b r b
+  pub made-to : (at : Spot) (b : List ℕ) (r : Deed) → d ≡ To at → r ≡ deedOf (penWith at (p .layout) (p .raster) (p .used) (p .depth)) m Nothing false Kept → MadeBy d p m b r b
   made-to at b r e h = rw (e, h) (record { whole = λ l. refl; placed = tt })
 
-  pub made-laid : (at : Spot) (n : Layout) (b : List ℕ) (r : Deed) → d ≡ Laid at n → r ≡ deedOf (penWith p at n (p .raster) (p .used) (p .depth)) m Nothing false Kept → MadeBy d p m b r b
+  pub made-laid : (at : Spot) (n : Layout) (b : List ℕ) (r : Deed) → d ≡ Laid at n → r ≡ deedOf (penWith at n (p .raster) (p .used) (p .depth)) m Nothing false Kept → MadeBy d p m b r b
   made-laid at n b r e h = rw (e, h) (record { whole = λ l. refl; placed = tt })
 
-  pub made-drawn : (q : Raster) (b : List ℕ) (r : Deed) → d ≡ Drawn q → r ≡ deedOf (penWith p (p .at) (p .layout) q (p .used) (p .depth)) m Nothing false Kept → MadeBy d p m b r b
+  pub made-drawn : (q : Raster) (b : List ℕ) (r : Deed) → d ≡ Drawn q → r ≡ deedOf (penWith (p .at) (p .layout) q (p .used) (p .depth)) m Nothing false Kept → MadeBy d p m b r b
   made-drawn q b r e h = rw (e, h) (record { whole = λ l. refl; placed = tt })
 
-  pub made-fresh : (q : Raster) (b : List ℕ) (r : Deed) → d ≡ Fresh q → r ≡ deedOf (penWith p (p .at) (p .layout) q (p .used) (p .depth)) m Nothing false Kept → MadeBy d p m b r zeroSeed
+  pub made-fresh : (q : Raster) (b : List ℕ) (r : Deed) → d ≡ Fresh q → r ≡ deedOf (penWith (p .at) (p .layout) q (p .used) (p .depth)) m Nothing false Kept → MadeBy d p m b r zeroSeed
   made-fresh q b r e h = rw (e, h) (record { whole = λ l. refl; placed = tt })
 
-  pub made-reset : (q : Raster) (b : List ℕ) (r : Deed) → d ≡ change.Reset q → r ≡ deedOf (penWith p (p .at) (p .layout) q (p .used) (p .depth)) (besideOf 0) Nothing false Kept → MadeBy d p m b r zeroSeed
+  pub made-reset : (q : Raster) (b : List ℕ) (r : Deed) → d ≡ change.Reset q → r ≡ deedOf (penWith (p .at) (p .layout) q (p .used) (p .depth)) (besideOf 0) Nothing false Kept → MadeBy d p m b r zeroSeed
   made-reset q b r e h = rw (e, h) (record { whole = λ l. refl; placed = tt })
 
-  pub made-pushed : (b : List ℕ) (r : Deed) → d ≡ change.Pushed → Placed d (p .depth) → r ≡ deedOf (penWith p (p .at) (p .layout) (p .raster) (p .used) (p .depth + 1)) m Nothing false Pushed → MadeBy d p m b r b
+  pub made-pushed : (b : List ℕ) (r : Deed) → d ≡ change.Pushed → Placed d (p .depth) → r ≡ deedOf (penWith (p .at) (p .layout) (p .raster) (p .used) (p .depth + 1)) m Nothing false Pushed → MadeBy d p m b r b
   unfolding pushed
   made-pushed b r e k h = let z : p .depth < 20 = rw e at k in rw (e, h) (record { whole = λ l. refl; placed = (z, refl, refl) })
 
-  pub made-popped : (b : List ℕ) (r : Deed) → d ≡ change.Popped → Placed d (p .depth) → r ≡ deedOf (penWith p (p .at) (p .layout) (p .raster) (p .used) (p .depth - 1)) m Nothing false Popped → MadeBy d p m b r b
+  pub made-popped : (b : List ℕ) (r : Deed) → d ≡ change.Popped → Placed d (p .depth) → r ≡ deedOf (penWith (p .at) (p .layout) (p .raster) (p .used) (p .depth - 1)) m Nothing false Popped → MadeBy d p m b r b
   unfolding popped
   made-popped b r e k h =
       let z : (0 < p .depth) × (p .depth ≤ 20) = rw e at k in
@@ -251,7 +251,7 @@ module _ (p : Pen) (l : List Spot) (b : List ℕ) (r : Deed) where
   pub pushed-core : r .stacking ≡ Pushed → wholeOf p l b r .core ≡ coreOf (r .pen) (set l (p .depth) (p .at)) b
   pushed-core e = rw e
 
-  pub popped-core : r .stacking ≡ Popped → wholeOf p l b r .core ≡ coreOf (penWith p (getD l (r .pen .depth) origin) (r .pen .layout) (r .pen .raster) (r .pen .used) (r .pen .depth)) (set l (r .pen .depth) origin) b
+  pub popped-core : r .stacking ≡ Popped → wholeOf p l b r .core ≡ coreOf (penWith (getD l (r .pen .depth) origin) (r .pen .layout) (r .pen .raster) (r .pen .used) (r .pen .depth)) (set l (r .pen .depth) origin) b
   popped-core e = rw e
 
   pub kept-there : (l′ : List Spot) → r .stacking ≡ Kept → l′ ≡ l → wholeOf p l b r .core ≡ coreOf (r .pen) l′ b

@@ -7,13 +7,11 @@ use Rattle.common.specs.Lists.{pad}
 use Rattle.rules.specs.declared.Measure.{Measure}
 use Rattle.rules.specs.declared.Spot.{Spot}
 use Rattle.rules.specs.declared.Raster.{Raster}
-use Rattle.rules.specs.declared.Escape.{Escape}
-use Rattle.rules.specs.declared.Beside.{Beside}
 use Rattle.rules.specs.declared.Core.{Core}
 use Rattle.rules.specs.Measure.{inch, rowHolds, intoWidth, intoHeight, spot}
 use Rattle.rules.specs.States.{withStarted, withMargin, withAt, withRaster, withUsed, withSeed, zeroSeed}
 use Rattle.rules.specs.Effects.{startedAt}
-use Rattle.rules.specs.Acts.{begun, drawn, besideAfter, escape}
+use Rattle.rules.specs.Acts.{begun, drawn}
 use Rattle.raster.specs.Cursor.{rasterBegun, rowSpot, movedOn}
 
 -- what a row does to the core: raster begun, moved on, and the row is the seed row
@@ -58,7 +56,3 @@ begun-seed c = go (c .raster .started)
     go : (t : Bool) → cond t (c .seed) zeroSeed ≡ cond t c (startedAt 0 c) .seed
     go true = refl
     go false = refl
-
--- the row method behind the two-byte command that a `match` has told
-pub beside-told : (k j : Escape) (m r : Beside) → k ≡ j → r ≡ besideAfter (escape j) m → r ≡ besideAfter (escape k) m
-beside-told k j m r e h = rw e h

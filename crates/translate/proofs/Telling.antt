@@ -24,7 +24,7 @@ use Rattle.rules.specs.Codes.{typed}
 use Rattle.rules.specs.Items.{isText, read}
 use Rattle.rules.specs.Items as rule
 use Rattle.rules.specs.Acts.{Act, mean, step, isClosed, over}
-use Rattle.rules.specs.Run.{Trace, trace, traceOf, enough, wholeStream, actsOf, acts}
+use Rattle.rules.specs.Run.{trace, enough, wholeStream, actsOf, acts}
 use Rattle.rules.specs.Plain.{put, putAll, plain}
 use Rattle.reader.specs.declared.ReadItem.{ReadItem}
 use Rattle.reader.specs.declared.Item.the-variants as found

@@ -1,6 +1,5 @@
 -- `changes::end_at` meets its contract. Assumes nothing.
 use Rattle.changes.proofs.Changing.{end}
-use borrow.Author.Needs.{needs}
 use Rattle.changes.proofs.end_at.Statement.{statement}
 use Rattle.changes.proofs.end_at.Tie as tie
 

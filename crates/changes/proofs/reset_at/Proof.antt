@@ -1,6 +1,5 @@
 -- `changes::reset_at` meets its contract. Assumes nothing.
 use Rattle.changes.proofs.Changing.{reset}
-use borrow.Author.Needs.{needs}
 use Rattle.changes.proofs.reset_at.Statement.{statement}
 use Rattle.changes.proofs.reset_at.Tie as tie
 

@@ -1,5 +1,4 @@
 -- `reader::group_at` meets its contract. Assumes nothing.
-use mathlib.Core.Logic.{⊎-elim}
 use native.Mathlib.Omega.{arith}
 use borrow.Author.Needs.{needs}
 use Rattle.common.proofs.Places.{at-cons₁, at-end₁}
