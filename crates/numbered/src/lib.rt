@@ -1,6 +1,6 @@
-// The paper's number for each finding and for each refusal.
+// The paper's number for each finding and for each refusal, and whether there is a finding at all.
 ghost use mathlib.Core.Path.{_≡_};
-ghost use Rattle.rules.specs.Findings.{findingNumber, refusalNumber};
+ghost use Rattle.rules.specs.Findings.{findingNumber, isClean, refusalNumber};
 use rules::Finding;
 use rules::Refusal;
 
@@ -17,6 +17,22 @@ pub fn finding_number(f: Finding) -> u32
         Finding::StackLimit => 5,
         Finding::NotNow => 6,
         Finding::DamagedRow => 7,
+    }
+}
+
+// Whether there is no finding.
+pub fn is_clean(f: Finding) -> bool
+    ensures { λ r. ⌜ r ≡ isClean f ⌝ }
+{
+    match f {
+        Finding::Nothing => true,
+        Finding::EndsInside => false,
+        Finding::CannotStand => false,
+        Finding::NotCarried => false,
+        Finding::NotAllowed => false,
+        Finding::StackLimit => false,
+        Finding::NotNow => false,
+        Finding::DamagedRow => false,
     }
 }
 

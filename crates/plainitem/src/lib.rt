@@ -16,7 +16,7 @@ use elements::copy;
 use heads::head_length;
 use heads::write_print_head;
 use heads::write_row_head;
-use items::is_clean;
+use numbered::is_clean;
 use plainly::command_length;
 use plainly::write_command;
 use reader::Item;

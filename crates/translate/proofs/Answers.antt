@@ -20,8 +20,8 @@ use Rattle.rules.specs.Plain.{plain, refusedRoom, tooLong, translate}
 use Rattle.theorems.specs.Statements.{TranslatePromise}
 use Rattle.theorems.proofs.Theorems.{every-stream-has-a-plain-stream}
 use Rattle.common.proofs.Choices.{or-true-left, or-true-right, or-neither, le-or-lt}
-use Rattle.translate.specs.Walked.{Walked}
-use Rattle.translate.proofs.Telling.{no-bytes}
+use Rattle.plainstream.specs.Walked.{Walked}
+use Rattle.plainstream.proofs.Telling.{no-bytes}
 
 module _ (W H : ℕ) (stream room : List ℕ) (r : Translated) (x : Bool) (a : x ≡ allowed W H) where
   -- what a refusal gives

@@ -39,10 +39,10 @@ use Rattle.reader.proofs.Places.{read-left, read-back}
 use Rattle.text.specs.Cursor.{typedSpot}
 use Rattle.pens.specs.declared.Pen.{Pen}
 use Rattle.pens.specs.Pens.{penOf, coreOf}
-use Rattle.items.specs.declared.Deed.{Deed}
-use Rattle.items.specs.Acted.{Acted, actedOf, acted, pageAfter, ActedOn}
-use Rattle.items.specs.Deeds.{wholeOf, DeedOn}
-use Rattle.items.proofs.Deeds.{text-done}
+use Rattle.deeds.specs.declared.Deed.{Deed}
+use Rattle.deeds.specs.Acted.{Acted, actedOf, acted, pageAfter, ActedOn}
+use Rattle.deeds.specs.Deeds.{wholeOf, DeedOn}
+use Rattle.deeds.proofs.Acts.{text-done}
 use Rattle.turns.specs.Turns.{Stepped, textNext, shownBy, ItemDone, stopOf, RunsOn}
 use Rattle.theorems.specs.Facts.{Fits, Shaped, SoundState}
 use Rattle.theorems.proofs.Streams.{step-shaped}

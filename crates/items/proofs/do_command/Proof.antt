@@ -1,5 +1,5 @@
 -- `items::do_command` meets its contract. Assumes nothing.
-use Rattle.items.proofs.Penned.{command-told, command-unknown}
+use Rattle.items.proofs.Items.{command-told, command-unknown}
 use borrow.Author.Needs.{needs}
 use Rattle.items.proofs.do_command.Statement.{statement}
 use Rattle.items.proofs.do_command.Tie as tie

@@ -2,7 +2,7 @@
 use native.Mathlib.Omega.{arith}
 use mathlib.Core.Path.{ap}
 use Rattle.reader.specs.Items.{fromOf, toOf}
-use Rattle.items.proofs.Penned.{item-bytes, item-command}
+use Rattle.items.proofs.Items.{item-bytes, item-command}
 use borrow.Author.Needs.{needs}
 use Rattle.items.proofs.do_item.Statement.{statement}
 use Rattle.items.proofs.do_item.Tie as tie

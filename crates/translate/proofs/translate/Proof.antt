@@ -27,17 +27,17 @@ measure-of-requires c κs = search needs
 least-requires : tie.Need-least-requires
 least-requires c κs = search needs
 
-sub-walk : tie.Need-sub-walk
-sub-walk c = search needs
+sub-write-stream : tie.Need-sub-write-stream
+sub-write-stream c = search needs
 
-part-walk-start : tie.Need-part-walk-start
-part-walk-start c = search needs
+part-write-stream-start : tie.Need-part-write-stream-start
+part-write-stream-start c = search needs
 
-part-walk-end : tie.Need-part-walk-end
-part-walk-end c = search needs
+part-write-stream-end : tie.Need-part-write-stream-end
+part-write-stream-end c = search needs
 
-walk-requires : tie.Need-walk-requires
-walk-requires c κs = (fits _ _ _ (c .before .before .before .before .before .allowed .ensures) (c .before .before .before .before .if1 .left) _ (c .before .before .measure-of .ensures), c .before .before .before .if2 .left)
+write-stream-requires : tie.Need-write-stream-requires
+write-stream-requires c κs = (fits _ _ _ (c .before .before .before .before .before .allowed .ensures) (c .before .before .before .before .if1 .left) _ (c .before .before .measure-of .ensures), c .before .before .before .if2 .left)
 
 refuse-requires-3 : tie.Need-refuse-requires-3
 refuse-requires-3 c κs = search needs
@@ -46,16 +46,16 @@ same-length : tie.Need-same-length
 same-length c = search needs
 
 returns-3 : tie.Need-returns-3
-returns-3 c = no-room _ _ _ _ _ _ (c .before .before .before .before .before .before .before .before .before .before .allowed .ensures) (c .before .before .before .before .before .before .before .before .before .if1 .left) (c .before .before .before .before .before .before .before .before .if2 .left) _ (c .before .before .before .before .before .before .before .measure-of .ensures) _ (c .before .before .before .before .before .before .least .ensures) _ (c .before .before .before .before .walk .last .1 .1 .0) _ (c .before .before .before .before .walk .ensures) (c .before .before .before .room .given .0) (c .before .if3 .taken) (c .refuse3 .ensures)
+returns-3 c = no-room _ _ _ _ _ _ (c .before .before .before .before .before .before .before .before .before .before .allowed .ensures) (c .before .before .before .before .before .before .before .before .before .if1 .left) (c .before .before .before .before .before .before .before .before .if2 .left) _ (c .before .before .before .before .before .before .before .measure-of .ensures) _ (c .before .before .before .before .before .before .least .ensures) _ (c .before .before .before .before .write-stream .last .1 .1 .0) _ (c .before .before .before .before .write-stream .ensures) (c .before .before .before .room .given .0) (c .before .if3 .taken) (c .refuse3 .ensures)
 
-walk-requires-2 : tie.Need-walk-requires-2
-walk-requires-2 c κs = (fits _ _ _ (c .before .before .before .before .before .before .before .before .before .before .allowed .ensures) (c .before .before .before .before .before .before .before .before .before .if1 .left) _ (c .before .before .before .before .before .before .before .measure-of .ensures), c .before .before .before .before .before .before .before .before .if2 .left)
+write-stream-requires-2 : tie.Need-write-stream-requires-2
+write-stream-requires-2 c κs = (fits _ _ _ (c .before .before .before .before .before .before .before .before .before .before .allowed .ensures) (c .before .before .before .before .before .before .before .before .before .if1 .left) _ (c .before .before .before .before .before .before .before .measure-of .ensures), c .before .before .before .before .before .before .before .before .if2 .left)
 
 same-length-2 : tie.Need-same-length-2
 same-length-2 c = search needs
 
 returns-4 : tie.Need-returns-4
-returns-4 c = carried _ _ _ _ _ _ (c .before .before .before .before .before .before .before .before .before .before .before .before .before .allowed .ensures) (c .before .before .before .before .before .before .before .before .before .before .before .before .if1 .left) (c .before .before .before .before .before .before .before .before .before .before .before .if2 .left) _ (c .before .before .before .before .before .before .before .before .before .before .measure-of .ensures) _ (c .before .before .before .before .before .before .before .before .before .least .ensures) _ (c .before .before .before .before .before .before .before .walk .last .1 .1 .0) _ (c .before .before .before .before .before .before .before .walk .ensures) (c .before .before .before .before .before .before .room .given .0) (c .before .before .before .before .if3 .left) _ _ (c .before .before .walk2 .ensures) refl
+returns-4 c = carried _ _ _ _ _ _ (c .before .before .before .before .before .before .before .before .before .before .before .before .before .allowed .ensures) (c .before .before .before .before .before .before .before .before .before .before .before .before .if1 .left) (c .before .before .before .before .before .before .before .before .before .before .before .if2 .left) _ (c .before .before .before .before .before .before .before .before .before .before .measure-of .ensures) _ (c .before .before .before .before .before .before .before .before .before .least .ensures) _ (c .before .before .before .before .before .before .before .write-stream .last .1 .1 .0) _ (c .before .before .before .before .before .before .before .write-stream .ensures) (c .before .before .before .before .before .before .room .given .0) (c .before .before .before .before .if3 .left) _ _ (c .before .before .write-stream2 .ensures) refl
 
 pub translate-spec : {M : Type 1} → statement M
 translate-spec =
@@ -68,13 +68,13 @@ translate-spec =
     returns-2
     measure-of-requires
     least-requires
-    sub-walk
-    part-walk-start
-    part-walk-end
-    walk-requires
+    sub-write-stream
+    part-write-stream-start
+    part-write-stream-end
+    write-stream-requires
     refuse-requires-3
     same-length
     returns-3
-    walk-requires-2
+    write-stream-requires-2
     same-length-2
     returns-4)

@@ -8,7 +8,7 @@ use Rattle.rules.specs.States.{stateOf}
 use Rattle.rules.specs.Run.{runFrom}
 use Rattle.theorems.specs.Facts.{Fits}
 use Rattle.pens.specs.Pens.{coreOf}
-use Rattle.items.proofs.Penned.{kept-there, pushed-core, popped-core, emptied-there, push-placed, pop-placed}
+use Rattle.deeds.proofs.Penned.{kept-there, pushed-core, popped-core, emptied-there, push-placed, pop-placed}
 use Rattle.turns.proofs.Turns.{Going, Quiet, quiet-first, quiet-goes, goes-quiet, text-told, deed-done, run-whole, left-with, stop-is, turn-full, turn-over, turn-stops, turn-goes, turn-text, going-apart}
 use native.Mathlib.Omega.{arith}
 use borrow.Author.Needs.{needs}

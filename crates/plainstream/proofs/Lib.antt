@@ -1,0 +1,2 @@
+-- The laws of a stream written plain.
+pub mod Telling

@@ -1,0 +1,10 @@
+-- `rastering::end_at` meets its contract. Assumes nothing.
+use Rattle.rastering.proofs.Rastering.{end}
+use Rattle.rastering.proofs.end_at.Statement.{statement}
+use Rattle.rastering.proofs.end_at.Tie as tie
+
+returns : tie.Need-returns
+returns c = λ g v p l deep. end g v p l _ deep
+
+pub end-at-spec : {M : Type 1} → statement M
+end-at-spec = tie.close (tie.spec returns)
