@@ -1,7 +1,7 @@
 -- What commands without a row do to pen, stack and seed row. Assumes nothing.
 use Prim.{tt}
 use mathlib.Core.Path.{_≡_, refl, sym, ap, _∙_}
-use mathlib.Core.Bool.{Bool, true, false, cond, not}
+use mathlib.Core.Bool.{Bool, true, false, cond}
 use mathlib.Core.List.{List, []}
 use Prim.Native.Nat.{ℕ, _+_, _-_, _≤_, _<_}
 use native.Mathlib.Omega.{arith}
@@ -23,7 +23,7 @@ use Rattle.rules.specs.Commands.{whole, useOf, usedValue, isNegative}
 use Rattle.rules.specs.Effects.{effect, barred, pushed, popped}
 use Rattle.rules.specs.Codes.{typedAll}
 use Rattle.rules.specs.Acts.{order, print, showAll, next, nextAll, shown, endsPage, besideAfter, bar, gate, meanCommand}
-use Rattle.deeds.specs.Acted.{Acted, actedOf, acted, pageAfter, ActedFor}
+use Rattle.deeds.specs.Acted.{actedOf, acted, pageAfter, ActedFor}
 use Rattle.rules.specs.declared.Layout.{Layout}
 use Rattle.text.specs.declared.Typed.{Typed}
 use Rattle.text.specs.Cursor.{TypedAll}
@@ -37,50 +37,32 @@ use Rattle.deeds.specs.declared.Deed.{Deed}
 use Rattle.deeds.specs.declared.Stacking.the-variants.{Kept, Pushed, Popped}
 use Rattle.deeds.specs.Deeds.{deedOf, DeedFor}
 use Rattle.commands.specs.Made.{MadeBy}
-use Rattle.deeds.proofs.Acts.{done-nothing, one-act, gate-done}
-use Rattle.deeds.proofs.Penned.{penWith}
+use Rattle.deeds.proofs.Acts.{one-act, gate-done}
+use Rattle.deeds.proofs.Penned.{nothing, penWith}
 
 module _ (g : Measure) where
-  -- a negative value: finding 4
-  pub valued-negative : (k : Kind) (v : Value) (c : Core) (m : Beside) (r : Acted) (t : Bool) → t ≡ isNegative (useOf k) v → t ≡ true → r ≡ actedOf c m NotAllowed false → (p : List ℕ) → ActedFor g (meanCommand g (Valued k v) p c m) c r
-  unfolding meanCommand
-  valued-negative k v c m r t e f h p q = rw (← e, f, h) (done-nothing g NotAllowed c m q)
-
   -- a command with a value
-  pub valued-done : (k : Kind) (v u : Value) (c d : Core) (m n : Beside) (f : Finding) (t : Bool) → t ≡ isNegative (useOf k) v → t ≡ false → u ≡ usedValue (useOf k) v → f ≡ barred g k u c → d ≡ cond (isClean (barred g k u c)) (effect g k u c) c
+  valued-done : (k : Kind) (v u : Value) (c d : Core) (m n : Beside) (f : Finding) (t : Bool) → t ≡ isNegative (useOf k) v → t ≡ false → u ≡ usedValue (useOf k) v → f ≡ barred g k u c → d ≡ cond (isClean (barred g k u c)) (effect g k u c) c
       → ((w : Value) → n ≡ cond (isClean f) (besideAfter (order k w) m) m) → (p : List ℕ) → ActedFor g (meanCommand g (Valued k v) p c m) c (actedOf d n f false)
   unfolding meanCommand bar next endsPage shown
   valued-done k v u c d m n f t o e x h y z p q = rw (← o, e, ← x) (gate-done g (order k u) c d m n f h y (z u ∙ ap (λ (b : Finding). cond (isClean b) (besideAfter (order k u) m) m) h) refl (λ l. refl) q)
 
   -- &p#X
-  pub print-negative : (v : Value) (p : List ℕ) (c : Core) (m : Beside) (r : Acted) (t : Bool) → t ≡ isNegative whole v → t ≡ true → r ≡ actedOf c m NotAllowed false → ActedFor g (meanCommand g (Print v) p c m) c r
-  unfolding meanCommand
-  print-negative v p c m r t e f h q = rw (← e, f, h) (done-nothing g NotAllowed c m q)
-
-  pub print-done : (v : Value) (p : List ℕ) (c d : Core) (m : Beside) (t : Bool) → t ≡ isNegative whole v → t ≡ false → d ≡ typedAll g p c → ActedFor g (meanCommand g (Print v) p c m) c (actedOf d m Nothing false)
+  print-done : (v : Value) (p : List ℕ) (c d : Core) (m : Beside) (t : Bool) → t ≡ isNegative whole v → t ≡ false → d ≡ typedAll g p c → ActedFor g (meanCommand g (Print v) p c m) c (actedOf d m Nothing false)
   unfolding meanCommand gate bar besideAfter next shown endsPage
   print-done v p c d m t f e h q = rw (← f, e, h) (one-act g (print p) Nothing m c q)
 
 module _ (v : Value) (c : Core) (m : Beside) (t : Bool) (o : t ≡ isNegative whole v) where
-  -- *b#M with a negative value
-  pub method-negative : (r : Acted) → t ≡ true → r ≡ actedOf c m NotAllowed false → (g : Measure) (p : List ℕ) → ActedFor g (meanCommand g (Method v) p c m) c r
-  unfolding meanCommand
-  method-negative r e h g p q = rw (← o, e, h) (done-nothing g NotAllowed c m q)
-
-  -- a method that there is not
-  pub method-beyond : (n : ℕ) (r : Acted) → t ≡ false → n ≡ wholePart v → 3 < n → r ≡ actedOf c m NotAllowed false → (g : Measure) (p : List ℕ) → ActedFor g (meanCommand g (Method v) p c m) c r
-  unfolding meanCommand
-  method-beyond n r e k l h g p q = rw (← o, e, ← k, lt-leb n 3 l, h) (done-nothing g NotAllowed c m q)
-
-  -- one of 0 to 3
-  pub method-done : (n : ℕ) → t ≡ false → n ≡ wholePart v → n ≤ 3 → (g : Measure) (p : List ℕ) → ActedFor g (meanCommand g (Method v) p c m) c (actedOf c (besideOf n) Nothing false)
+  -- *b#M: one of 0 to 3
+  method-done : (n : ℕ) → t ≡ false → n ≡ wholePart v → n ≤ 3 → (g : Measure) (p : List ℕ) → ActedFor g (meanCommand g (Method v) p c m) c (actedOf c (besideOf n) Nothing false)
   unfolding meanCommand acted pageAfter nextAll showAll
   method-done n e h l g p q = rw (← o, e, ← h, le-leb n 3 l) (record { given = refl; page = refl })
 
 module _ (g : Measure) (p : Pen) (m : Beside) where
   -- a negative value: finding 4
   pub negative-deed : (k : Kind) (v : Value) (r : Deed) (t : Bool) → t ≡ isNegative (useOf k) v → t ≡ true → r ≡ deedOf p m NotAllowed false Kept → (b s : List ℕ) → DeedFor g (λ (c : Core). meanCommand g (Valued k v) s c m) p b r b
-  negative-deed k v r t e f h b s page = rw h (record { acted = λ l. valued-negative g k v (coreOf p l b) m (actedOf (coreOf p l b) m NotAllowed false) t e f refl s page; placed = tt })
+  unfolding meanCommand
+  negative-deed k v r t e f h b s = nothing g p m (λ (c : Core). meanCommand g (Valued k v) s c m) NotAllowed r (λ c. rw (← e, f)) h b
 
   -- a command with a value, which makes its change
   pub valued-deed : (k : Kind) (v u : Value) (d : Change) (b : List ℕ) (r : Deed) (b′ : List ℕ) (t : Bool) → t ≡ isNegative (useOf k) v → t ≡ false → u ≡ usedValue (useOf k) v → Changed g k u (p .at) (p .layout) (p .raster) (p .depth) d → MadeBy d p m b r b′
@@ -96,7 +78,8 @@ module _ (g : Measure) (p : Pen) (m : Beside) where
 
   -- &p#X
   pub print-barred : (v : Value) (s : List ℕ) (r : Deed) (t : Bool) → t ≡ isNegative whole v → t ≡ true → r ≡ deedOf p m NotAllowed false Kept → (b : List ℕ) → DeedFor g (λ (c : Core). meanCommand g (Print v) s c m) p b r b
-  print-barred v s r t e f h b page = rw h (record { acted = λ l. print-negative g v s (coreOf p l b) m (actedOf (coreOf p l b) m NotAllowed false) t e f refl page; placed = tt })
+  unfolding meanCommand
+  print-barred v s r t e f h = nothing g p m (λ (c : Core). meanCommand g (Print v) s c m) NotAllowed r (λ c. rw (← e, f)) h
 
   pub print-deed : (v : Value) (s : List ℕ) (x : Typed) (r : Deed) (t : Bool) → t ≡ isNegative whole v → t ≡ false → TypedAll g s (p .at) (p .layout) (p .used) x → r ≡ deedOf (penWith (x .at) (p .layout) (p .raster) (x .used) (p .depth)) m Nothing false Kept
       → (b : List ℕ) → DeedFor g (λ (c : Core). meanCommand g (Print v) s c m) p b r b
@@ -105,11 +88,13 @@ module _ (g : Measure) (p : Pen) (m : Beside) where
 module _ (v : Value) (p : Pen) (m : Beside) (t : Bool) (o : t ≡ isNegative whole v) where
   -- *b#M with a negative value
   pub method-barred : (r : Deed) → t ≡ true → r ≡ deedOf p m NotAllowed false Kept → (g : Measure) (s b : List ℕ) → DeedFor g (λ (c : Core). meanCommand g (Method v) s c m) p b r b
-  method-barred r e h g s b page = rw h (record { acted = λ l. method-negative v (coreOf p l b) m t o (actedOf (coreOf p l b) m NotAllowed false) e refl g s page; placed = tt })
+  unfolding meanCommand
+  method-barred r e h g s = nothing g p m (λ (c : Core). meanCommand g (Method v) s c m) NotAllowed r (λ c. rw (← o, e)) h
 
   -- a method that there is not
   pub method-none : (n : ℕ) (r : Deed) → t ≡ false → n ≡ wholePart v → 3 < n → r ≡ deedOf p m NotAllowed false Kept → (g : Measure) (s b : List ℕ) → DeedFor g (λ (c : Core). meanCommand g (Method v) s c m) p b r b
-  method-none n r e f k h g s b page = rw h (record { acted = λ l. method-beyond v (coreOf p l b) m t o n (actedOf (coreOf p l b) m NotAllowed false) e f k refl g s page; placed = tt })
+  unfolding meanCommand
+  method-none n r e f k h g s = nothing g p m (λ (c : Core). meanCommand g (Method v) s c m) NotAllowed r (λ c. rw (← o, e, ← f, lt-leb n 3 k)) h
 
   -- one of 0 to 3
   pub method-deed : (n : ℕ) (r : Deed) → t ≡ false → n ≡ wholePart v → n ≤ 3 → r ≡ deedOf p (besideOf n) Nothing false Kept → (g : Measure) (s b : List ℕ) → DeedFor g (λ (c : Core). meanCommand g (Method v) s c m) p b r b

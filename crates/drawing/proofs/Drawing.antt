@@ -34,14 +34,14 @@ use Rattle.raster.proofs.Drawing.{drawn-parts, row-parts, begun-raster, begun-a
 use Rattle.theorems.proofs.Lengths.{decoded-length}
 use Rattle.theorems.proofs.Soundness.{drop-zeros}
 use Rattle.common.proofs.Choices.{and-true}
-use Rattle.deeds.specs.Acted.{Acted, actedOf, acted, ActedOn}
+use Rattle.deeds.specs.Acted.{actedOf, acted, ActedOn}
 use Rattle.pens.specs.declared.Pen.{Pen}
 use Rattle.pens.specs.Pens.{coreOf}
 use Rattle.deeds.specs.declared.Deed.{Deed}
 use Rattle.deeds.specs.declared.Stacking.the-variants.{Kept}
 use Rattle.deeds.specs.Deeds.{deedOf, DeedOn}
-use Rattle.deeds.proofs.Acts.{done-nothing, one-act}
-use Rattle.deeds.proofs.Penned.{penWith}
+use Rattle.deeds.proofs.Acts.{one-act}
+use Rattle.deeds.proofs.Penned.{nothing, penWith}
 
 -- the first bytes of a row painted, with so many dots to a bit
 pub painting-of : (w n : ℕ) (row page after : List ℕ) (dots d from line : ℕ) → dots ≡ d → n ≡ w → after ≡ painted w (take n row) dots from line page → after ≡ painted w (take w row) d from line page
@@ -80,11 +80,6 @@ kept-long t l s h e = rw e (go t)
     go false = length-replicate {A = ℕ} 600 0
 
 module _ (g : Measure) (v : Value) (p : List ℕ) (c : Core) (m : Beside) where
-  -- *b#W with a negative value
-  pub row-negative : (page : List ℕ) (r : Acted) (t : Bool) → t ≡ isNegative whole v → t ≡ true → r ≡ actedOf c m NotAllowed false → ActedOn g (meanCommand g (Row v) p c m) c page r page
-  unfolding meanCommand
-  row-negative page r t e f h = rw (← e, f, h) (done-nothing g NotAllowed c m page)
-
   module _ (fits : g .wide ≤ 600) (long : length (seedNow c) ≡ 600) (clear : allZero (drop (g .wide) (c .seed)) ≡ true) where
     abbrev bytes : List ℕ
     bytes = decoded (g .wide) (m .method) (seedNow c) p .bytes
@@ -112,7 +107,7 @@ module _ (g : Measure) (v : Value) (p : List ℕ) (c : Core) (m : Beside) where
         rw (← i, e, z, w, y, u, q, k, h) (rw (drawn-parts g bytes c) at (one-act g (draw bytes) (cond (decoded (g .wide) (m .method) (seedNow c) p .intact) Nothing DamagedRow) m c page))
 
   -- the same from its parts: the raster state that it is drawn in, the seed row that it is decoded over, and the cursor behind it
-  pub row-done : (q : Raster) (to : Spot) (seed after page painting : List ℕ) (t o : Bool) (f : Finding) → g .wide ≤ 600 → allZero (drop (g .wide) (c .seed)) ≡ true → length (c .seed) ≡ 600 → o ≡ isNegative whole v → o ≡ false
+  row-done : (q : Raster) (to : Spot) (seed after page painting : List ℕ) (t o : Bool) (f : Finding) → g .wide ≤ 600 → allZero (drop (g .wide) (c .seed)) ≡ true → length (c .seed) ≡ 600 → o ≡ isNegative whole v → o ≡ false
       → q ≡ rasterBegun (c .raster) → to ≡ rowSpot g (c .at) q → seed ≡ cond (c .raster .started) (c .seed) zeroSeed → Decoded (m .method) (min (g .wide) 600) p seed after t
       → painting ≡ painted (g .wide) (take (g .wide) after) (300 / q .resolution) (q .margin / dotUnit) (c .at .y / dotUnit) page → f ≡ cond t Nothing DamagedRow
       → ActedOn g (meanCommand g (Row v) p c m) c page (actedOf (withSeed after (withUsed true (withRaster q (withAt to c)))) m f false) painting
@@ -127,7 +122,8 @@ module _ (g : Measure) (v : Value) (p : List ℕ) (c : Core) (m : Beside) where
 module _ (g : Measure) (p : Pen) (m : Beside) where
   -- *b#W with a negative value
   pub row-barred : (v : Value) (s b page : List ℕ) (r : Deed) (t : Bool) → t ≡ isNegative whole v → t ≡ true → r ≡ deedOf p m NotAllowed false Kept → DeedOn g (λ (c : Core). meanCommand g (Row v) s c m) p b page r b page
-  row-barred v s b page r t e f h = rw h (record { acted = λ l. row-negative g v s (coreOf p l b) m page (actedOf (coreOf p l b) m NotAllowed false) t e f refl; placed = tt })
+  unfolding meanCommand
+  row-barred v s b page r t e f h = nothing g p m (λ (c : Core). meanCommand g (Row v) s c m) NotAllowed r (λ c. rw (← e, f)) h b page
 
   -- a row, from its parts: the raster state that it is drawn in, the seed row that it is decoded over, and the cursor behind it
   pub row-deed : (v : Value) (s : List ℕ) (q : Raster) (to : Spot) (b seed after page painting : List ℕ) (t o : Bool) (f : Finding) (r : Deed) → g .wide ≤ 600 → allZero (drop (g .wide) b) ≡ true → length b ≡ 600 → o ≡ isNegative whole v → o ≡ false

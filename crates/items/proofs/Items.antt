@@ -1,7 +1,7 @@
 -- What an item does, from what its bytes or its command do. Assumes nothing.
 use Prim.{tt}
 use mathlib.Core.Path.{_≡_, refl, sym}
-use mathlib.Core.Bool.{false, not}
+use mathlib.Core.Bool.{false}
 use mathlib.Core.List.{List, [], _∷_}
 use Prim.Native.Nat.{ℕ, _-_}
 use lib.ListN.{take, drop}
@@ -10,7 +10,7 @@ use Rattle.rules.specs.declared.Command.the-variants.{Unknown}
 use Rattle.rules.specs.declared.Finding.the-variants.{NotCarried}
 use Rattle.rules.specs.declared.Core.{Core}
 use Rattle.rules.specs.declared.Beside.{Beside}
-use Rattle.rules.specs.Acts.{meaning, meanCommand, mean}
+use Rattle.rules.specs.Acts.{meanCommand, mean}
 use Rattle.reader.specs.declared.Item.{Item}
 use Rattle.reader.specs.declared.Item.the-variants as found
 use Rattle.reader.specs.Items.{itemIn}

@@ -18,14 +18,14 @@ use Rattle.rules.specs.declared.Beside.{Beside}
 use Rattle.rules.specs.Measure.{LW, half, intoHeight}
 use Rattle.rules.specs.States.{besideOf, zeroSeed, atY, withLeft, withRight, freshCore}
 use Rattle.rules.specs.Codes.{coded, escaped, codeByte, escapeByte}
-use Rattle.rules.specs.Acts.{control, escape, endsPage, besideAfter, gate, Meaning, meaning, nothingDone, meanCode, meanTwo, mean}
+use Rattle.rules.specs.Acts.{control, escape, endsPage, besideAfter, gate, Meaning, nothingDone, meanCode, meanTwo, mean}
 use Rattle.rules.specs.Items as rule
 use Rattle.reader.specs.declared.Item.{Item}
 use Rattle.short.specs.declared.Coding.{Coding}
 use Rattle.short.specs.declared.Coding.the-variants as coding
 use Rattle.short.specs.declared.Escaping.{Escaping}
 use Rattle.short.specs.declared.Escaping.the-variants as escaping
-use Rattle.deeds.specs.Acted.{Acted, actedOf, acted, ActedFor}
+use Rattle.deeds.specs.Acted.{acted}
 use Rattle.short.specs.Meant.{codeOf, escapeOf, meanBytes}
 use Rattle.rules.specs.declared.Layout.{Layout}
 use Rattle.text.specs.Cursor.{typedSpot}
@@ -35,9 +35,9 @@ use Rattle.pens.specs.declared.Pen.{Pen}
 use Rattle.pens.specs.Pens.{penOf, coreOf}
 use Rattle.deeds.specs.declared.Deed.{Deed}
 use Rattle.deeds.specs.declared.Stacking.the-variants.{Kept, Emptied}
-use Rattle.deeds.specs.Deeds.{deedOf, wholeOf, DeedFor}
-use Rattle.deeds.proofs.Acts.{done-nothing, code-done, escape-done, text-done}
-use Rattle.deeds.proofs.Penned.{penWith, nothing}
+use Rattle.deeds.specs.Deeds.{deedOf, DeedFor}
+use Rattle.deeds.proofs.Acts.{code-done, escape-done, text-done}
+use Rattle.deeds.proofs.Penned.{same-meaning, nothing, penWith}
 
 module _ (g : Measure) where
   -- the meaning of a code
@@ -58,12 +58,9 @@ module _ (g : Measure) where
       go false false false false true = refl
       go false false false false false = refl
 
-  -- the byte of a code
-  pub code-known : (b : ℕ) (x : Coding) (k : Code) (c : Core) (m : Beside) (r : Acted) → x ≡ codeOf b → x ≡ coding.Known k → ActedFor g (gate g (control k) c m) c r → ActedFor g (meanCode g b c m) c r
-  code-known b x k c m r e f h p = rw (code-means b c m, ← e, f) (h p)
-
-  pub code-ignored : (b : ℕ) (x : Coding) (c : Core) (m : Beside) (r : Acted) → x ≡ codeOf b → x ≡ coding.Ignored → r ≡ actedOf c m Nothing false → ActedFor g (meanCode g b c m) c r
-  code-ignored b x c m r e f h p = rw (code-means b c m, ← e, f, h) (done-nothing g Nothing c m p)
+  -- what the byte of a code means, by what it is
+  code-is : (b : ℕ) (x y : Coding) → x ≡ codeOf b → x ≡ y → (c : Core) (m : Beside) → meanCode g b c m ≡ meanOfCode c m y
+  code-is b x y e f c m = rw (code-means b c m, ← e, f)
 
   -- the meaning of a two-byte command
   abbrev meanOfEscape : Core → Beside → Escaping → Meaning
@@ -81,12 +78,9 @@ module _ (g : Measure) where
       go false false true = refl
       go false false false = refl
 
-  -- the byte of a two-byte command
-  pub escape-known : (b : ℕ) (x : Escaping) (k : Escape) (c : Core) (m : Beside) (r : Acted) → x ≡ escapeOf b → x ≡ escaping.Known k → ActedFor g (gate g (escape k) c m) c r → ActedFor g (meanTwo g b c m) c r
-  escape-known b x k c m r e f h p = rw (escape-means b c m, ← e, f) (h p)
-
-  pub escape-unknown : (b : ℕ) (x : Escaping) (c : Core) (m : Beside) (r : Acted) → x ≡ escapeOf b → x ≡ escaping.NotCarried → r ≡ actedOf c m NotCarried false → ActedFor g (meanTwo g b c m) c r
-  escape-unknown b x c m r e f h p = rw (escape-means b c m, ← e, f, h) (done-nothing g NotCarried c m p)
+  -- what the byte of a two-byte command means, by what it is
+  escape-is : (b : ℕ) (x y : Escaping) → x ≡ escapeOf b → x ≡ y → (c : Core) (m : Beside) → meanTwo g b c m ≡ meanOfEscape c m y
+  escape-is b x y e f c m = rw (escape-means b c m, ← e, f)
 
 module _ (g : Measure) (p : Pen) (m : Beside) where
   -- a control code
@@ -103,10 +97,10 @@ module _ (g : Measure) (p : Pen) (m : Beside) where
 
   -- the byte of a code
   pub code-byte : (b : ℕ) (x : Coding) (k : Code) (r : Deed) → x ≡ codeOf b → x ≡ coding.Known k → ((s : List ℕ) → DeedFor g (λ (c : Core). gate g (control k) c m) p s r s) → (s : List ℕ) → DeedFor g (λ (c : Core). meanCode g b c m) p s r s
-  code-byte b x k r e f h s page = record { acted = λ l. code-known g b x k (coreOf p l s) m (wholeOf p l s r) e f (λ q. h s q .acted l) page; placed = h s page .placed }
+  code-byte b x k r e f h s page = same-meaning g p m (λ (c : Core). gate g (control k) c m) (λ (c : Core). meanCode g b c m) s page r s page (λ c. code-is g b x (coding.Known k) e f c m) (h s page)
 
   pub code-other : (b : ℕ) (x : Coding) (r : Deed) → x ≡ codeOf b → x ≡ coding.Ignored → r ≡ deedOf p m Nothing false Kept → (s : List ℕ) → DeedFor g (λ (c : Core). meanCode g b c m) p s r s
-  code-other b x r e f h s page = rw h (record { acted = λ l. code-ignored g b x (coreOf p l s) m (actedOf (coreOf p l s) m Nothing false) e f refl page; placed = tt })
+  code-other b x r e f h = nothing g p m (λ (c : Core). meanCode g b c m) Nothing r (λ c. code-is g b x coding.Ignored e f c m) h
 
   -- ESC 9
   pub margins-deed : (n : Layout) (r : Deed) → n ≡ withLeft 0 (withRight (LW g) (p .layout)) → r ≡ deedOf (penWith (p .at) n (p .raster) (p .used) (p .depth)) m Nothing false Kept
@@ -126,10 +120,10 @@ module _ (g : Measure) (p : Pen) (m : Beside) where
 
   -- the byte of a two-byte command
   pub escape-byte : (b : ℕ) (x : Escaping) (k : Escape) (s : List ℕ) (r : Deed) (s′ : List ℕ) → x ≡ escapeOf b → x ≡ escaping.Known k → DeedFor g (λ (c : Core). gate g (escape k) c m) p s r s′ → DeedFor g (λ (c : Core). meanTwo g b c m) p s r s′
-  escape-byte b x k s r s′ e f h page = record { acted = λ l. escape-known g b x k (coreOf p l s) m (wholeOf p l s′ r) e f (λ q. h q .acted l) page; placed = h page .placed }
+  escape-byte b x k s r s′ e f h page = same-meaning g p m (λ (c : Core). gate g (escape k) c m) (λ (c : Core). meanTwo g b c m) s page r s′ page (λ c. escape-is g b x (escaping.Known k) e f c m) (h page)
 
   pub escape-other : (b : ℕ) (x : Escaping) (s : List ℕ) (r : Deed) → x ≡ escapeOf b → x ≡ escaping.NotCarried → r ≡ deedOf p m NotCarried false Kept → DeedFor g (λ (c : Core). meanTwo g b c m) p s r s
-  escape-other b x s r e f h page = rw h (record { acted = λ l. escape-unknown g b x (coreOf p l s) m (actedOf (coreOf p l s) m NotCarried false) e f refl page; placed = tt })
+  escape-other b x s r e f h = nothing g p m (λ (c : Core). meanTwo g b c m) NotCarried r (λ c. escape-is g b x escaping.NotCarried e f c m) h s
 
   -- a space or a text byte
   pub text-deed : (b : ℕ) (at : Spot) (u : Bool) (r : Deed) → at ≡ typedSpot g (p .at) (p .layout) → u ≡ (p .used || not (eqb b 32)) → r ≡ deedOf (penWith at (p .layout) (p .raster) u (p .depth)) m Nothing false Kept
