@@ -39,7 +39,8 @@ use Rattle.theorems.proofs.Lengths.{seed-long, decoded-length}
 use Rattle.heads.specs.Heads.{headOf}
 use Rattle.heads.proofs.Heads.{print-append, row-append}
 use Rattle.plainly.proofs.Writing.{order-append}
-use Rattle.plainitem.specs.Plain.{carriedCodes, plainBytes, plainCommand, plainItem}
+use Rattle.plainbytes.specs.Bytes.{carriedCodes, plainBytes}
+use Rattle.plainitem.specs.Plain.{plainCommand, plainItem}
 use Rattle.reader.specs.declared.Item.the-variants as found
 
 -- a head and a payload, and what stands behind

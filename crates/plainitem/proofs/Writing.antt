@@ -1,7 +1,7 @@
--- Bytes written as far as there is room, counted all the same. Assumes nothing.
+-- Commands and items written as far as there is room, counted all the same. Assumes nothing.
 use Prim.{tt}
-use mathlib.Core.Path.{_≡_, refl, sym, ap, _∙_}
-use mathlib.Core.Bool.{Bool, true, false, cond}
+use mathlib.Core.Path.{_≡_, ap, _∙_}
+use mathlib.Core.Bool.{Bool, true, false}
 use mathlib.Core.List.{List, [], _∷_, _++_, append-nil}
 use Prim.Native.Nat.{ℕ, _+_, _-_, _≤_}
 use native.Mathlib.Omega.{arith}
@@ -13,7 +13,7 @@ use Rattle.common.specs.Choice.{oneOf}
 use Rattle.common.specs.Stores.{Wrote}
 use Rattle.common.specs.Lists.{trim}
 use Rattle.common.proofs.Choices.{choice}
-use Rattle.common.proofs.Stores.{sets-out, sets-then}
+use Rattle.common.proofs.Stores.{sets-then}
 use Rattle.rules.specs.declared.Kind.{Kind}
 use Rattle.rules.specs.declared.Value.{Value}
 use Rattle.rules.specs.declared.Command.{Command}
@@ -21,7 +21,7 @@ use Rattle.rules.specs.declared.Command.the-variants.{Valued, Print, Row}
 use Rattle.rules.specs.declared.Finding.{Finding}
 use Rattle.rules.specs.Findings.{isClean}
 use Rattle.rules.specs.Commands.{printSpelled, rowSpelled, whole, useOf, usedValue, isNegative}
-use Rattle.rules.specs.Acts.{order, print, draw}
+use Rattle.rules.specs.Acts.{order}
 use Rattle.rules.specs.Plain.{put}
 use Rattle.reader.specs.declared.Item.{Item}
 use Rattle.reader.specs.declared.Item.the-variants as found
@@ -30,29 +30,10 @@ use Rattle.reader.proofs.Item.{the-type}
 use Rattle.lengths.specs.Counts.{Counted}
 use Rattle.heads.specs.Heads.{headOf, HeadLength}
 use Rattle.heads.proofs.Heads.{print-append, row-append}
-use Rattle.plainitem.specs.Plain.{Puts, PutsShort, carriedCodes, plainBytes, plainCommand, plainItem}
+use Rattle.plainitem.specs.Plain.{PutsShort, plainCommand, plainItem}
 use Rattle.plainitem.proofs.Trimming.{trim-take}
-
--- nothing is written
-pub puts-none : (l : List ℕ) (n : ℕ) → Puts l n [] l n
-puts-none l n = record { next = omega arith; held = refl }
-
--- beyond the room nothing is stored
-pub puts-out : (l : List ℕ) (n : ℕ) (w : List ℕ) (r : ℕ) → length l ≤ n → r ≡ n + length w → Puts l n w l r
-puts-out l n w r h e = record { next = e; held = sym (sets-out l n w h) }
-
-module _ {l l' l'' : List ℕ} {n m r : ℕ} where
-  -- one text, and another behind it
-  pub puts-both : (v w : List ℕ) → Puts l n v l' m → Puts l' m w l'' r → Puts l n (v ++ w) l'' r
-  puts-both v w p q = record {
-    next = omega (arith, length-append v w, p .next, q .next);
-    held = sets-then l n v w (p .held) (q .held) (p .next);
-  }
-
-module _ {l l' l'' : List ℕ} {n m r : ℕ} where
-  -- two bytes
-  pub puts-two : {x y : ℕ} → Puts l n (x ∷ []) l' m → Puts l' m (y ∷ []) l'' r → Puts l n (x ∷ y ∷ []) l'' r
-  puts-two {x} {y} p q = puts-both (x ∷ []) (y ∷ []) p q
+use Rattle.plainbytes.specs.Bytes.{Puts, carriedCodes, plainBytes}
+use Rattle.plainbytes.proofs.Bytes.{puts-none, puts-out}
 
 -- an act's text is few bytes
 pub short-none : (l : List ℕ) (n : ℕ) → PutsShort l n [] l n
@@ -122,23 +103,11 @@ abbrev others : List ℕ
 others = 0 ∷ 1 ∷ 2 ∷ 4 ∷ []
 
 module _ {l l' : List ℕ} {at r : ℕ} where
-  -- a control code that does something
-  pub code-put : (b : ℕ) (x : Bool) → x ≡ oneOf carriedCodes b → x ≡ true → Puts l at (b ∷ []) l' r → (f : Finding) → Puts l at (plainBytes (found.Code b) f) l' r
-  code-put b x e h p f = rw (← e, h) p
-
-  -- a two-byte command that is carried
-  pub escape-put : (b : ℕ) (f : Finding) (x : Bool) → x ≡ isClean f → x ≡ true → Puts l at (27 ∷ b ∷ []) l' r → Puts l at (plainBytes (found.Two b) f) l' r
-  escape-put b f x e h p = rw (← e, h) p
-
   -- a command with a value that is carried out
   pub valued-put : (k : Kind) (v u : Value) (f : Finding) (x : Bool) → x ≡ isClean f → x ≡ true → u ≡ usedValue (useOf k) v → PutsShort l at (put (order k u) []) l' r
       → (p row : List ℕ) → PutsShort l at (plainCommand (Valued k v) p f row) l' r
   unfolding plainCommand
   valued-put k v u f x e h y q p row = rw (← e, h, ← y) q
-
-  -- an item that is no command is few bytes
-  pub bytes-told : (i j : Item) (f : Finding) → i ≡ j → Puts l at (plainBytes j f) l' r → Puts l at (plainBytes i f) l' r
-  bytes-told i j f e p = rw e p
 
   pub command-told : (i j : Command) (p : List ℕ) (f : Finding) (row : List ℕ) → i ≡ j → PutsShort l at (plainCommand j p f row) l' r → PutsShort l at (plainCommand i p f row) l' r
   command-told i j p f row e q = rw e q
@@ -162,14 +131,6 @@ module _ {l l' : List ℕ} {at r : ℕ} where
   item-bytes s (found.Broken x) f row o p = record { puts = p; small = omega (arith, p .next) }
 
 module _ (l : List ℕ) (at : ℕ) where
-  -- an ignored code
-  pub code-none : (b : ℕ) (x : Bool) → x ≡ oneOf carriedCodes b → x ≡ false → (f : Finding) → Puts l at (plainBytes (found.Code b) f) l at
-  code-none b x e h f = rw (← e, h) (puts-none l at)
-
-  -- a two-byte command with a finding
-  pub escape-none : (b : ℕ) (f : Finding) (x : Bool) → x ≡ isClean f → x ≡ false → Puts l at (plainBytes (found.Two b) f) l at
-  escape-none b f x e h = rw (← e, h) (puts-none l at)
-
   -- a command with a finding
   pub valued-none : (k : Kind) (v : Value) (f : Finding) (x : Bool) → x ≡ isClean f → x ≡ false → (p row : List ℕ) → PutsShort l at (plainCommand (Valued k v) p f row) l at
   unfolding plainCommand

@@ -2,21 +2,21 @@
 // not carried out is dropped. Where the room ends, writing ends; the next place is given all the same, so that a walk over an empty
 // room counts. Nothing is refused: from and to are the payload's places as the reader gives them.
 ghost use mathlib.Core.Path.{_≡_};
-ghost use mathlib.Core.List.{List, [], _∷_};
+ghost use mathlib.Core.List.{List, []};
 ghost use Prim.Native.Nat.{ℕ, _+_, _≤_};
 ghost use lib.ListN.{length};
-ghost use Rattle.common.specs.Choice.{oneOf};
 ghost use Rattle.common.specs.Lists.{trim};
 ghost use Rattle.rules.specs.declared.Command.the-variants.{Valued, Print, Row};
 ghost use Rattle.rules.specs.Acts.{order};
 ghost use Rattle.rules.specs.Plain.{put};
 ghost use Rattle.reader.specs.Items.{itemIn, fromOf, toOf};
-ghost use Rattle.plainitem.specs.Plain.{Puts, PutsShort, carriedCodes, plainBytes, plainCommand, plainItem};
+ghost use Rattle.plainitem.specs.Plain.{PutsShort, plainCommand, plainItem};
 use elements::copy;
 use heads::head_length;
 use heads::write_print_head;
 use heads::write_row_head;
 use numbered::is_clean;
+use plainbytes::write_bytes;
 use plainly::command_length;
 use plainly::write_command;
 use reader::Item;
@@ -26,27 +26,6 @@ use rules::Kind;
 use rules::Value;
 use values::used_value;
 use values::whole_negative;
-
-// One byte, where there is room for it.
-pub fn write_one(b: u8, room: &mut [u8], at: usize) -> usize
-    requires { ⌜ at ≤ 1099511627776 ⌝ }
-    ensures { λ r. ⌜ Puts (now (room .entry)) at (b ∷ []) (now (room .exit)) r ⌝ }
-{
-    if room.len() <= at {
-        return at + 1;
-    }
-    room[at] = b;
-    at + 1
-}
-
-// ESC and a byte.
-fn write_two(b: u8, room: &mut [u8], at: usize) -> usize
-    requires { ⌜ at ≤ 1099511627775 ⌝ }
-    ensures { λ r. ⌜ Puts (now (room .entry)) at (27 ∷ b ∷ []) (now (room .exit)) r ⌝ }
-{
-    let next = write_one(27, room, at);
-    write_one(b, room, next)
-}
 
 // A command with its used value.
 fn write_order(k: Kind, v: Value, room: &mut [u8], at: usize) -> usize
@@ -121,62 +100,6 @@ fn write_row(v: Value, row: &[u8], room: &mut [u8], at: usize) -> usize
     write_row_head(n, room, at);
     copy(room, behind, row, 0, n);
     behind + n
-}
-
-// Whether a control code does something.
-fn is_carried(b: u8) -> bool
-    ensures { λ r. ⌜ r ≡ oneOf carriedCodes b ⌝ }
-{
-    match b {
-        13 => true,
-        10 => true,
-        12 => true,
-        8 => true,
-        9 => true,
-        _ => false,
-    }
-}
-
-// A control code, unless it is ignored.
-fn write_code(b: u8, room: &mut [u8], at: usize) -> usize
-    requires { ⌜ at ≤ 1099511627776 ⌝ }
-    ensures { λ r. ⌜ ((f : Finding) → Puts (now (room .entry)) at (plainBytes (Item.Code b) f) (now (room .exit)) r) ⌝ }
-{
-    if is_carried(b) {
-        write_one(b, room, at)
-    } else {
-        at
-    }
-}
-
-// A two-byte command, unless it has a finding.
-fn write_escape(b: u8, f: Finding, room: &mut [u8], at: usize) -> usize
-    requires { ⌜ at ≤ 1099511627775 ⌝ }
-    ensures { λ r. ⌜ Puts (now (room .entry)) at (plainBytes (Item.Two b) f) (now (room .exit)) r ⌝ }
-{
-    if is_clean(f) {
-        write_two(b, room, at)
-    } else {
-        at
-    }
-}
-
-// An item that is no command.
-fn write_bytes(i: Item, f: Finding, room: &mut [u8], at: usize) -> usize
-    requires { ⌜ at ≤ 1099511627775 ⌝ }
-    ensures { λ r. ⌜ Puts (now (room .entry)) at (plainBytes i f) (now (room .exit)) r ⌝ }
-{
-    match i {
-        Item::Text(b) => write_one(b, room, at),
-        Item::Code(b) => write_code(b, room, at),
-        Item::Two(b) => write_escape(b, f, room, at),
-        Item::Command {
-            command: _,
-            from: _,
-            to: _,
-        } => at,
-        Item::Broken(_) => at,
-    }
 }
 
 // A command with its payload. A row is written as it was left in the seed row, which a damaged one left as zeros.

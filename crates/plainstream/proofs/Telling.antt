@@ -46,8 +46,9 @@ use Rattle.theorems.proofs.Soundness.{fresh-sound}
 use Rattle.theorems.proofs.Streams.{step-shaped, step-left}
 use Rattle.theorems.proofs.Sound.{step-sound}
 use Rattle.plainstream.specs.Walked.{Walked}
-use Rattle.plainitem.specs.Plain.{Puts, PutsShort, plainItem}
-use Rattle.plainitem.proofs.Writing.{puts-none, puts-both}
+use Rattle.plainbytes.specs.Bytes.{Puts}
+use Rattle.plainitem.specs.Plain.{PutsShort, plainItem}
+use Rattle.plainbytes.proofs.Bytes.{puts-none, puts-both}
 use Rattle.plainitem.proofs.Meaning.{item-tells}
 
 -- acts behind acts

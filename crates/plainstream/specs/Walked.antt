@@ -4,7 +4,7 @@ use Prim.Native.Nat.{ℕ, _≤_, _<_}
 use lib.ListN.{length}
 use Rattle.rules.specs.declared.Measure.{Measure}
 use Rattle.rules.specs.Plain.{plain}
-use Rattle.plainitem.specs.Plain.{Puts}
+use Rattle.plainbytes.specs.Bytes.{Puts}
 
 -- r bytes are the plain stream, written as far as there is room; where r is more than the most that are wanted, so is its length
 pub record Walked (g : Measure) (s room : List ℕ) (most r : ℕ) (after : List ℕ) : Type 0 where

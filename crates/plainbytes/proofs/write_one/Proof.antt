@@ -1,8 +1,8 @@
--- `plainitem::write_one` meets its contract. Assumes nothing.
-use Rattle.plainitem.proofs.Writing.{puts-out}
+-- `plainbytes::write_one` meets its contract. Assumes nothing.
+use Rattle.plainbytes.proofs.Bytes.{puts-out}
 use borrow.Author.Needs.{needs}
-use Rattle.plainitem.proofs.write_one.Statement.{statement}
-use Rattle.plainitem.proofs.write_one.Tie as tie
+use Rattle.plainbytes.proofs.write_one.Statement.{statement}
+use Rattle.plainbytes.proofs.write_one.Tie as tie
 
 add-result : tie.Need-add-result
 add-result c = search needs

@@ -1,9 +1,9 @@
--- `plainitem::is_carried` meets its contract. Assumes nothing.
+-- `plainbytes::is_carried` meets its contract. Assumes nothing.
 use mathlib.Core.Path.{sym}
 use Rattle.common.proofs.Choices.{tests}
 use borrow.Author.Needs.{needs}
-use Rattle.plainitem.proofs.is_carried.Statement.{statement}
-use Rattle.plainitem.proofs.is_carried.Tie as tie
+use Rattle.plainbytes.proofs.is_carried.Statement.{statement}
+use Rattle.plainbytes.proofs.is_carried.Tie as tie
 
 returns : tie.Need-returns
 returns c = sym (search (tests, needs) depth 12)

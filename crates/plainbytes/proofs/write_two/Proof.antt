@@ -1,8 +1,8 @@
--- `plainitem::write_two` meets its contract. Assumes nothing.
-use Rattle.plainitem.proofs.Writing.{puts-two}
+-- `plainbytes::write_two` meets its contract. Assumes nothing.
+use Rattle.plainbytes.proofs.Bytes.{puts-two}
 use borrow.Author.Needs.{needs}
-use Rattle.plainitem.proofs.write_two.Statement.{statement}
-use Rattle.plainitem.proofs.write_two.Tie as tie
+use Rattle.plainbytes.proofs.write_two.Statement.{statement}
+use Rattle.plainbytes.proofs.write_two.Tie as tie
 
 write-one-requires : tie.Need-write-one-requires
 write-one-requires c κs = search needs

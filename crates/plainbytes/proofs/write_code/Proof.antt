@@ -1,8 +1,8 @@
--- `plainitem::write_code` meets its contract. Assumes nothing.
-use Rattle.plainitem.proofs.Writing.{code-put, code-none}
+-- `plainbytes::write_code` meets its contract. Assumes nothing.
+use Rattle.plainbytes.proofs.Bytes.{code-put, code-none}
 use borrow.Author.Needs.{needs}
-use Rattle.plainitem.proofs.write_code.Statement.{statement}
-use Rattle.plainitem.proofs.write_code.Tie as tie
+use Rattle.plainbytes.proofs.write_code.Statement.{statement}
+use Rattle.plainbytes.proofs.write_code.Tie as tie
 
 is-carried-requires : tie.Need-is-carried-requires
 is-carried-requires c κs = search needs

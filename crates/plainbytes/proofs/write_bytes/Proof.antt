@@ -1,8 +1,8 @@
--- `plainitem::write_bytes` meets its contract. Assumes nothing.
-use Rattle.plainitem.proofs.Writing.{puts-none, bytes-told}
+-- `plainbytes::write_bytes` meets its contract. Assumes nothing.
+use Rattle.plainbytes.proofs.Bytes.{puts-none, bytes-told}
 use borrow.Author.Needs.{needs}
-use Rattle.plainitem.proofs.write_bytes.Statement.{statement}
-use Rattle.plainitem.proofs.write_bytes.Tie as tie
+use Rattle.plainbytes.proofs.write_bytes.Statement.{statement}
+use Rattle.plainbytes.proofs.write_bytes.Tie as tie
 
 enum-known-i : tie.Need-enum-known-i
 enum-known-i c = search needs

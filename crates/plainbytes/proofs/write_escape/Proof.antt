@@ -1,8 +1,8 @@
--- `plainitem::write_escape` meets its contract. Assumes nothing.
-use Rattle.plainitem.proofs.Writing.{escape-put, escape-none}
+-- `plainbytes::write_escape` meets its contract. Assumes nothing.
+use Rattle.plainbytes.proofs.Bytes.{escape-put, escape-none}
 use borrow.Author.Needs.{needs}
-use Rattle.plainitem.proofs.write_escape.Statement.{statement}
-use Rattle.plainitem.proofs.write_escape.Tie as tie
+use Rattle.plainbytes.proofs.write_escape.Statement.{statement}
+use Rattle.plainbytes.proofs.write_escape.Tie as tie
 
 is-clean-requires : tie.Need-is-clean-requires
 is-clean-requires c κs = search needs
