@@ -13,21 +13,13 @@ use Rattle.rules.specs.declared.Core.{Core}
 use Rattle.rules.specs.declared.Beside.{Beside}
 use Rattle.rules.specs.declared.Finding.{Finding}
 use Rattle.rules.specs.declared.Finding.the-variants.{Nothing}
-use Rattle.rules.specs.Measure.{intoWidth, intoHeight, stackHolds}
+use Rattle.rules.specs.Measure.{stackHolds}
 use Rattle.rules.specs.Findings.{isClean}
-use Rattle.rules.specs.States.{atX, atY, withAt, withLayout, withRaster, withSeed, zeroSeed, besideOf}
-use Rattle.rules.specs.Effects.{target, pushed, popped, barred, effect}
+use Rattle.rules.specs.States.{withAt, withLayout, withRaster, withSeed, zeroSeed, besideOf}
+use Rattle.rules.specs.Effects.{pushed, popped, barred, effect}
 use Rattle.rules.specs.Acts.{order, besideAfter}
 use Rattle.changes.specs.declared.Change.{Change}
 use Rattle.changes.specs.declared.Change.the-variants.{To, Laid, Drawn, Fresh, Reset, Pushed, Popped, Barred}
-
--- the cursor of `across`
-abbrev pub acrossSpot : Measure → ℕ → Value → Spot → Spot
-acrossSpot g unit v p = atX (intoWidth g (target 0 (p .x) unit v)) p
-
--- the cursor of `down`
-abbrev pub downSpot : Measure → ℕ → ℕ → Value → Spot → Spot
-downSpot g base unit v p = atY (intoHeight g (target base (p .y) unit v)) p
 
 -- the core with a change made to it
 abbrev pub made : Change → Core → Core

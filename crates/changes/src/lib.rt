@@ -1,5 +1,6 @@
 // Paper 01, "Commands": what a command with a value changes, apart from the rest of the core, which is large with its stack and its seed row and is not
-// handed over; who has it sets what is told. And the stack's own command.
+// handed over; who has it sets what is told. And the stack's own command, which is handed the number that the rules make of its value: its promise is for
+// each such value.
 ghost use mathlib.Core.Path.{_≡_};
 ghost use Prim.Native.Nat.{_≤_};
 ghost use Rattle.rules.specs.declared.Measure.{Measure};

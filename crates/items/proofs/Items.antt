@@ -2,7 +2,7 @@
 use Prim.{tt}
 use mathlib.Core.Path.{_≡_, refl, sym}
 use mathlib.Core.Bool.{false}
-use mathlib.Core.List.{List, [], _∷_}
+use mathlib.Core.List.{List}
 use Prim.Native.Nat.{ℕ, _-_}
 use lib.ListN.{take, drop}
 use Rattle.rules.specs.declared.Measure.{Measure}
@@ -15,6 +15,7 @@ use Rattle.reader.specs.declared.Item.{Item}
 use Rattle.reader.specs.declared.Item.the-variants as found
 use Rattle.reader.specs.Items.{itemIn}
 use Rattle.reader.proofs.Item.{the-type}
+use Rattle.reader.proofs.Items.{otherItems}
 use denote.Enum.Declared.{tagOf}
 use types.Run.{OneOf, miss}
 use Rattle.short.specs.Meant.{meanBytes}
@@ -25,17 +26,13 @@ use Rattle.deeds.specs.declared.Stacking.the-variants.{Kept}
 use Rattle.deeds.specs.Deeds.{deedOf, DeedOn, DeedFor}
 use Rattle.deeds.proofs.Penned.{same-meaning, nothing}
 
--- the variants of an item but for the command
-abbrev pub others : List ℕ
-others = 0 ∷ 1 ∷ 2 ∷ 4 ∷ []
-
 -- an item that is no command has the meaning of its bytes
-pub bytes-mean : (g : Measure) (s : List ℕ) (i : Item) (c : Core) (m : Beside) → OneOf others (tagOf the-type i) → meanBytes g i c m ≡ mean g (itemIn s i) c m
+bytes-mean : (g : Measure) (s : List ℕ) (i : Item) (c : Core) (m : Beside) → OneOf otherItems (tagOf the-type i) → meanBytes g i c m ≡ mean g (itemIn s i) c m
 unfolding mean
 bytes-mean g s (found.Text b) c m h = refl
 bytes-mean g s (found.Code b) c m h = refl
 bytes-mean g s (found.Two b) c m h = refl
-bytes-mean g s (found.Command k from to) c m h = absurd (miss others 3 tt h)
+bytes-mean g s (found.Command k from to) c m h = absurd (miss otherItems 3 tt h)
 bytes-mean g s (found.Broken f) c m h = refl
 
 module _ (g : Measure) (p : Pen) (m : Beside) where
@@ -49,7 +46,7 @@ module _ (g : Measure) (p : Pen) (m : Beside) where
   command-unknown s k b page r e h = rw e (nothing g p m (λ (c : Core). meanCommand g Unknown s c m) NotCarried r (λ c. refl) h b page)
 
   -- what its bytes do, the item does
-  pub item-bytes : (s : List ℕ) (i : Item) (b : List ℕ) (r : Deed) (b′ page : List ℕ) → OneOf others (tagOf the-type i) → DeedFor g (λ (c : Core). meanBytes g i c m) p b r b′ → DeedOn g (λ (c : Core). mean g (itemIn s i) c m) p b page r b′ page
+  pub item-bytes : (s : List ℕ) (i : Item) (b : List ℕ) (r : Deed) (b′ page : List ℕ) → OneOf otherItems (tagOf the-type i) → DeedFor g (λ (c : Core). meanBytes g i c m) p b r b′ → DeedOn g (λ (c : Core). mean g (itemIn s i) c m) p b page r b′ page
   item-bytes s i b r b′ page e h = same-meaning g p m (λ (c : Core). meanBytes g i c m) (λ (c : Core). mean g (itemIn s i) c m) b page r b′ page (λ c. sym (bytes-mean g s i c m e)) (h page)
 
   -- a command with the part of the stream that is its payload

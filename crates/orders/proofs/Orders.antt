@@ -15,7 +15,8 @@ use Rattle.rules.specs.Effects.{barred, effect}
 use Rattle.rules.specs.Acts.{besideAfter}
 use Rattle.changes.specs.declared.Change.{Change}
 use Rattle.changes.specs.declared.Change.the-variants.{To}
-use Rattle.changes.specs.Changed.{acrossSpot, downSpot, Changed}
+use Rattle.changes.specs.Changed.{Changed}
+use Rattle.positions.specs.Spots.{acrossSpot, downSpot}
 
 -- what holds of the kind that a `match` has told holds of the command's kind
 pub told : (g : Measure) (k j : Kind) (v : Value) (p : Spot) (l : Layout) (q : Raster) (n : ℕ) (d : Change) → k ≡ j → Changed g j v p l q n d → Changed g k v p l q n d

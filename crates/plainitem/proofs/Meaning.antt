@@ -1,15 +1,14 @@
 -- What an item means, written: the acts of the rules come to the bytes that code writes for it. Assumes nothing.
-use mathlib.Core.Path.{_≡_, refl, sym, ap, _∙_}
+use mathlib.Core.Path.{_≡_, refl, sym, _∙_}
 use mathlib.Core.Bool.{Bool, true, false, cond}
 use mathlib.Core.List.{List, [], _∷_, _++_, append-nil, append-assoc}
 use Prim.Native.Nat.{ℕ, _-_, _≤_}
-use native.Mathlib.Omega.{arith}
 use lib.Dec.{eqb, leb}
 use lib.ListN.{length, take, replicate}
 use lib.Seq.{take-at}
 use borrow.Author.Tests.{eqb-true}
 use Rattle.common.specs.Choice.{oneOf}
-use Rattle.common.specs.Lists.{pad, trim}
+use Rattle.common.specs.Lists.{trim}
 use Rattle.common.proofs.Choices.{choice, choice-by}
 use Rattle.rules.specs.declared.Measure.{Measure}
 use Rattle.rules.specs.declared.Value.{Value}

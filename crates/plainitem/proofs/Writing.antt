@@ -27,6 +27,7 @@ use Rattle.reader.specs.declared.Item.{Item}
 use Rattle.reader.specs.declared.Item.the-variants as found
 use Rattle.reader.specs.Items.{itemIn, fromOf, toOf}
 use Rattle.reader.proofs.Item.{the-type}
+use Rattle.reader.proofs.Items.{otherItems}
 use Rattle.lengths.specs.Counts.{Counted}
 use Rattle.heads.specs.Heads.{headOf, HeadLength}
 use Rattle.heads.proofs.Heads.{print-append, row-append}
@@ -43,10 +44,6 @@ module _ (l : List ℕ) (at : ℕ) (k : Kind) (v : Value) (n : ℕ) (c : Counted
   -- a command beyond the room
   pub order-out : length l ≤ at → PutsShort l at (put (order k v) []) l (at + n)
   order-out h = record { puts = puts-out l at (put (order k v) []) (at + n) h (ap (λ (i : ℕ). at + i) (c .is)); small = omega (arith, c .small) }
-
-  -- a command
-  pub order-put : (l' : List ℕ) (q : ℕ) → Wrote l at (put (order k v) []) l' q → PutsShort l at (put (order k v) []) l' (at + n)
-  order-put l' q w = record { puts = record { next = ap (λ (i : ℕ). at + i) (c .is); held = w .held }; small = omega (arith, c .small) }
 
 -- a head and a payload
 module _ (l : List ℕ) (at : ℕ) (h t x : List ℕ) (behind n : ℕ) (b : behind ≡ at + length h) (s : length h ≤ 24) (k : n ≡ length t) (f : n ≤ 32767) (e : x ≡ h ++ (t ++ [])) where
@@ -98,10 +95,6 @@ module _ (v : Value) (row : List ℕ) (l : List ℕ) (at m n : ℕ) (y : Bool) (
       let e : take n (drop 0 row) ≡ trim row = rw k (trim-take row) in
       counted-put l at (headOf rowSpelled n) (trim row) (plainCommand (Row v) p f row) (at + m) n (ap (λ (i : ℕ). at + i) (c .row)) (omega (arith, c .small, c .row)) k (omega arith) (row-text f p) l1 l2 q w (rw e at h)
 
--- the items that are no command
-abbrev others : List ℕ
-others = 0 ∷ 1 ∷ 2 ∷ 4 ∷ []
-
 module _ {l l' : List ℕ} {at r : ℕ} where
   -- a command with a value that is carried out
   pub valued-put : (k : Kind) (v u : Value) (f : Finding) (x : Bool) → x ≡ isClean f → x ≡ true → u ≡ usedValue (useOf k) v → PutsShort l at (put (order k u) []) l' r
@@ -118,7 +111,7 @@ module _ {l l' : List ℕ} {at r : ℕ} where
   unfolding plainItem
   item-command s i k from to f row e q = rw e q
 
-  pub item-bytes : (s : List ℕ) (i : Item) (f : Finding) (row : List ℕ) → OneOf others (tagOf the-type i) → Puts l at (plainBytes i f) l' r → PutsShort l at (plainItem (itemIn s i) f row) l' r
+  pub item-bytes : (s : List ℕ) (i : Item) (f : Finding) (row : List ℕ) → OneOf otherItems (tagOf the-type i) → Puts l at (plainBytes i f) l' r → PutsShort l at (plainItem (itemIn s i) f row) l' r
   unfolding plainItem
   item-bytes s (found.Text b) f row o p = record { puts = p; small = omega (arith, p .next) }
   item-bytes s (found.Code b) f row o p =
@@ -127,7 +120,7 @@ module _ {l l' : List ℕ} {at r : ℕ} where
   item-bytes s (found.Two b) f row o p =
       let n = choice (λ (w : List ℕ). length w ≤ 2) (isClean f) {a = 27 ∷ b ∷ []} {b = []} (omega arith) (omega arith) in
       record { puts = p; small = omega (arith, p .next) }
-  item-bytes s (found.Command k from to) f row o p = absurd (miss others 3 tt o)
+  item-bytes s (found.Command k from to) f row o p = absurd (miss otherItems 3 tt o)
   item-bytes s (found.Broken x) f row o p = record { puts = p; small = omega (arith, p .next) }
 
 module _ (l : List ℕ) (at : ℕ) where

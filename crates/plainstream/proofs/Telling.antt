@@ -87,7 +87,7 @@ pub record Telling (g : Measure) (s before : List ℕ) (t : State) (at : ℕ) (r
   pub sound : SoundState g t
 
 -- before the first item
-pub telling-first : (g : Measure) (s room : List ℕ) (t : State) → Fits g → t ≡ afresh g → Telling g s room t 0 room 0
+telling-first : (g : Measure) (s room : List ℕ) (t : State) → Fits g → t ≡ afresh g → Telling g s room t 0 room 0
 unfolding plain acts wholeStream left afresh sequenceSound
 telling-first g s room t f e = let z : left (afresh g .sequence) (drop 0 s) ≡ 2 * length s = refl in rw e (record {
   written = [];
@@ -152,19 +152,19 @@ module _ (g : Measure) (fit : Fits g) (s before : List ℕ) (t : State) (at : �
         rw (← z, d .given) (item-tells g (t .core) (t .beside) l (itemIn s (r .item)) (fit .wide) (h .shaped))
 
     -- the seed row keeps its length
-    pub telling-seed : length (a .core .seed) ≡ 600
+    telling-seed : length (a .core .seed) ≡ 600
     telling-seed =
         let m : a .core ≡ step g t (drop at s) .state .core = ap (λ (z : State). z .core) (done .state) in
         rw m (step-shaped g (fit .wide) t (drop at s) (h .shaped) not-over .0)
 
     -- less is left
-    pub telling-less : left (r .sequence) (drop (r .next) s) < left (t .sequence) (drop at s)
+    telling-less : left (r .sequence) (drop (r .next) s) < left (t .sequence) (drop at s)
     telling-less =
         let m : r .sequence ≡ step g t (drop at s) .state .sequence = ap (λ (z : State). z .sequence) (done .state) in
         rw (m, done .left) (step-left g t (drop at s) not-over)
 
     -- behind an item: it was drawn on a page of no bytes, which lie before the room
-    pub telling-more : (none room′ : List ℕ) (end′ : ℕ) → length none ≡ 0 → PutsShort (none ++ room) end bytes room′ end′ → Telling g s before (stateOf (a .core) (a .beside) (r .sequence)) (r .next) room′ end′
+    telling-more : (none room′ : List ℕ) (end′ : ℕ) → length none ≡ 0 → PutsShort (none ++ room) end bytes room′ end′ → Telling g s before (stateOf (a .core) (a .beside) (r .sequence)) (r .next) room′ end′
     telling-more none room′ end′ z y =
         let q : PutsShort room end bytes room′ end′ = rw (no-bytes none z) at y in
         let l = step-left g t (drop at s) not-over in

@@ -7,7 +7,7 @@ use Rattle.rules.specs.declared.Spot.{Spot}
 use Rattle.rules.specs.Measure.{intoWidth, intoHeight}
 use Rattle.rules.specs.States.{atX, atY}
 use Rattle.rules.specs.Effects.{target}
-use Rattle.changes.specs.Changed.{acrossSpot, downSpot}
+use Rattle.positions.specs.Spots.{acrossSpot, downSpot}
 
 -- a spot moved across, from what its parts are
 pub across-there : (g : Measure) (unit : ℕ) (v : Value) (p : Spot) (n x : ℕ) → n ≡ target 0 (p .x) unit v → x ≡ intoWidth g n → atX x p ≡ acrossSpot g unit v p

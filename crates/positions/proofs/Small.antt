@@ -3,7 +3,7 @@ use Prim.Native.Nat.{ℕ, _*_, _/_, _<_}
 use native.Mathlib.Omega.{arith}
 use mir.Syntax.{w32}
 use mir.Val.{Fits}
-use Rattle.changes.proofs.Products.{product-fits}
+use Rattle.state.proofs.Products.{product-fits}
 
 -- a displacement is small
 pub displaced-small : (a b : ℕ) → Fits w32 a → Fits w32 b → a * b / 10000 < 1844674407370956

@@ -3,7 +3,7 @@ ghost use mathlib.Core.Path.{_≡_};
 ghost use mathlib.Core.Bool.{cond};
 ghost use Prim.Native.Nat.{_+_, _-_, _≤_, _<_};
 ghost use Rattle.rules.specs.Effects.{target, displacement};
-ghost use Rattle.changes.specs.Changed.{acrossSpot, downSpot};
+ghost use Rattle.positions.specs.Spots.{acrossSpot, downSpot};
 use rules::Measure;
 use rules::Spot;
 use rules::Value;

@@ -171,3 +171,7 @@ module _ (s : List ℕ) (at : ℕ) (q : Sequence) (h : at < length s) where
   pub begun-open : (first group : ℕ) → q ≡ Open first group → Begins s (read q (drop at s)) (begun.Sequence first group at)
   unfolding read
   begun-open first group e = rw e (refl, omega arith)
+
+-- the variants of an item but for the command
+abbrev pub otherItems : List ℕ
+otherItems = 0 ∷ 1 ∷ 2 ∷ 4 ∷ []

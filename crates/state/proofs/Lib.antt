@@ -2,3 +2,4 @@
 pub mod Flags
 pub mod Keys
 pub mod Placed
+pub mod Products

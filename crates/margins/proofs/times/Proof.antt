@@ -1,5 +1,5 @@
 -- `margins::times` meets its contract. Assumes nothing.
-use Rattle.changes.proofs.Products.{product-fits}
+use Rattle.state.proofs.Products.{product-fits}
 use borrow.Author.Needs.{needs}
 use Rattle.margins.proofs.times.Statement.{statement}
 use Rattle.margins.proofs.times.Tie as tie

@@ -1,5 +1,5 @@
 -- `plainitem::write_order` meets its contract. Assumes nothing.
-use Rattle.plainitem.proofs.Writing.{order-out, order-put}
+use Rattle.plainitem.proofs.Writing.{order-out}
 use borrow.Author.Needs.{needs}
 use Rattle.plainitem.proofs.write_order.Statement.{statement}
 use Rattle.plainitem.proofs.write_order.Tie as tie

@@ -1,5 +1,5 @@
 -- `positions::displacement` meets its contract. Assumes nothing.
-use Rattle.changes.proofs.Products.{product-fits}
+use Rattle.state.proofs.Products.{product-fits}
 use Rattle.positions.proofs.Small.{displaced-small}
 use borrow.Author.Needs.{needs}
 use Rattle.positions.proofs.displacement.Statement.{statement}
