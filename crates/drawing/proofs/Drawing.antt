@@ -33,7 +33,7 @@ use Rattle.raster.specs.Cursor.{rasterBegun, rowSpot, movedOn}
 use Rattle.raster.proofs.Drawing.{drawn-parts, row-parts, begun-raster, begun-at, begun-seed}
 use Rattle.theorems.proofs.Lengths.{decoded-length}
 use Rattle.theorems.proofs.Soundness.{drop-zeros}
-use Rattle.common.proofs.Choices.{and-true}
+use Rattle.common.proofs.Choices.{and-true, choice}
 use Rattle.deeds.specs.Acted.{actedOf, acted, ActedOn}
 use Rattle.pens.specs.declared.Pen.{Pen}
 use Rattle.pens.specs.Pens.{coreOf}
@@ -56,28 +56,11 @@ zeros (b ∷ l) e = let h = and-true (eqb b 0) (allZero l) e in rw (eqb-true b 0
 -- the seed row that a row is decoded with is zero from W/8 on, too
 seed-now : (w : ℕ) (c : Core) → allZero (drop w (c .seed)) ≡ true → allZero (drop w (seedNow c)) ≡ true
 unfolding startedAt
-seed-now w c h = go (c .raster .started)
-  where
-    go : (t : Bool) → allZero (drop w (cond t c (startedAt 0 c) .seed)) ≡ true
-    go true = h
-    go false = drop-zeros w 600
+seed-now w c h = choice (λ (d : Core). allZero (drop w (d .seed)) ≡ true) (c .raster .started) h (drop-zeros w 600)
 
--- it is as long as the seed row
-seed-long : (c : Core) → length (c .seed) ≡ 600 → length (seedNow c) ≡ 600
-unfolding startedAt
-seed-long c h = go (c .raster .started)
-  where
-    go : (t : Bool) → length (cond t c (startedAt 0 c) .seed) ≡ 600
-    go true = h
-    go false = length-replicate {A = ℕ} 600 0
-
--- so is one that is zeroed or kept
+-- a seed row that is zeroed or kept is as long as it was
 pub kept-long : (t : Bool) (l s : List ℕ) → length l ≡ 600 → s ≡ cond t l zeroSeed → length s ≡ 600
-kept-long t l s h e = rw e (go t)
-  where
-    go : (u : Bool) → length (cond u l zeroSeed) ≡ 600
-    go true = h
-    go false = length-replicate {A = ℕ} 600 0
+kept-long t l s h e = rw e (choice (λ (k : List ℕ). length k ≡ 600) t h (length-replicate {A = ℕ} 600 0))
 
 module _ (g : Measure) (v : Value) (p : List ℕ) (c : Core) (m : Beside) where
   module _ (fits : g .wide ≤ 600) (long : length (seedNow c) ≡ 600) (clear : allZero (drop (g .wide) (c .seed)) ≡ true) where
@@ -113,7 +96,7 @@ module _ (g : Measure) (v : Value) (p : List ℕ) (c : Core) (m : Beside) where
       → ActedOn g (meanCommand g (Row v) p c m) c page (actedOf (withSeed after (withUsed true (withRaster q (withAt to c)))) m f false) painting
   row-done q to seed after page painting t o f fits clear long i e h k b x y z =
       let n : seed ≡ seedNow c = b ∙ begun-seed c in
-      let l : length (seedNow c) ≡ 600 = seed-long c long in
+      let l : length (seedNow c) ≡ 600 = rw n at (kept-long (c .raster .started) (c .seed) seed long b) in
       let x′ : Decoded (m .method) (min (g .wide) 600) p (movedOn g (begun c) .seed) after t = rw n at x in
       let r : q ≡ begun c .raster = h ∙ sym (begun-raster c) in
       let y′ : painting ≡ painted (g .wide) (take (g .wide) after) (300 / begun c .raster .resolution) (begun c .raster .margin / dotUnit) (begun c .at .y / dotUnit) page = rw (begun-at c, ← r) y in
