@@ -1,28 +1,22 @@
--- The ink of a row, made by bytes. Assumes nothing.
-use mathlib.Core.Path.{_≡_, refl, sym, ap, ap₂, _∙_}
-use mathlib.Core.Bool.{Bool, true, false, false≢true}
-use mathlib.Core.List.{List, [], _∷_, _++_, append-nil}
+-- A row's last dots, and its squares, made by bytes. Assumes nothing.
+use mathlib.Core.Path.{_≡_, refl, sym, ap, _∙_}
+use mathlib.Core.Bool.{Bool, false, not}
+use mathlib.Core.List.{List}
 use mathlib.Core.Logic.{⊎-elim}
-use Prim.Native.Nat.{ℕ, zero, suc, _+_, _-_, _*_, _/_, _%_, _^_, _≤_, _<_, min}
+use Prim.Native.Nat.{ℕ, _+_, _-_, _*_, _/_, _%_, _≤_, _<_}
 use native.Mathlib.Omega.{arith}
-use native.Mathlib.Numerals.{add-one}
-use native.Mathlib.Nat.{mul-assoc, mul-add-div-right, div-lt-iff-lt-mul, le-div-iff-mul-le, le-mul-of-pos-right, mul-le-mul-left, mul-le-mul-right, le-trans}
-use lib.Bits.{bitOr, or-zero-r}
+use native.Mathlib.Nat.{mul-assoc, mul-add-div-right, div-lt-iff-lt-mul}
+use lib.Bits.{bitOr, or-add-and, and-le-l, and-le-r}
 use lib.Dec.{T, eqb, eqb→eq}
-use lib.ListN.{length, getD, take, drop, set, replicate, getD-replicate, length-replicate, length-append, length-take, length-set, drop-of-length-le, List·getD-eq-default, take-append-drop}
-use lib.Pow.{shr-le}
-use lib.Seq.{take-all, take-at, length-take-le, getD-set-same, getD-set-other, drop-set-lt}
+use lib.ListN.{length, getD, set, length-set, List·getD-eq-default}
+use lib.Seq.{getD-set-same, getD-set-other}
 use borrow.Author.Count.{below-more}
-use borrow.Author.Tests.{le-leb, lt-leb}
+use borrow.Author.Tests.{not-false}
 use Rattle.common.specs.Bits.{bit, dot, byteOf}
-use Rattle.common.proofs.Bits.{dot-at, dot-lt, byteOf-cong, byteOf-bit, byteOf-lt, bit-byteOf, shifted-cur, shifted-carry}
+use Rattle.common.proofs.Bits.{dot-at, dot-lt, byteOf-cong, bit-byteOf}
 use Rattle.common.proofs.Choices.{le-or-lt}
-use Rattle.common.proofs.Lists.{take-replicate}
-use Rattle.common.proofs.Places.{cut}
 use Rattle.common.proofs.Tests.{all-below, below}
-use Rattle.rules.specs.Dots.{ink, inkedLine}
-use Rattle.ink.specs.declared.Place.{Place}
-use Rattle.ink.specs.Ink.{inkByte, Used, spreadOf, before, After, Inked, Reach}
+use Rattle.ink.specs.Ink.{Blank, Used, spreadOf, squareAt, Squared}
 
 -- ---- the row's last nonzero byte
 
@@ -30,207 +24,120 @@ use Rattle.ink.specs.Ink.{inkByte, Used, spreadOf, before, After, Inked,
 pub used-all : (row : List ℕ) → Used row (length row)
 used-all row = record { inside = omega arith; rest = λ i h. List·getD-eq-default row 0 h }
 
--- the last byte is zero: it is not used
-pub used-less : (row : List ℕ) (e : ℕ) → Used row e → 0 < e → getD row (e - 1) 0 ≤ 0 → Used row (e - 1)
-used-less row e v h z =
+-- two numbers or-ed are zero only if both are
+or-zeros : (a b : ℕ) → bitOr a b ≡ 0 → (a ≡ 0) × (b ≡ 0)
+or-zeros a b h = (omega (arith, or-add-and a b, and-le-r a b), omega (arith, or-add-and a b, and-le-l a b))
+
+-- one byte more is or-ed
+pub or-blank : (row : List ℕ) (at k all : ℕ) → (all ≡ 0 → (i : ℕ) → at ≤ i → i < at + k → getD row i 0 ≡ 0)
+    → bitOr all (getD row (at + k) 0) ≡ 0 → (i : ℕ) → at ≤ i → i < at + (k + 1) → getD row i 0 ≡ 0
+or-blank row at k all v z i h l =
+    let o = or-zeros all (getD row (at + k) 0) z in
+    ⊎-elim (λ (q : at + k ≤ i). let d : i ≡ at + k = omega arith in rw d (o .1)) (v (o .0) i h) (le-or-lt (at + k) i)
+
+-- the last sixteen bytes are zero: they are not used
+pub used-less : (row : List ℕ) (e : ℕ) (r : Bool) → Used row e → 16 ≤ e → Blank row (e - 16) r → not r ≡ false → Used row (e - 16)
+used-less row e r v h b z =
     record {
       inside = omega (arith, v .inside);
-      rest = λ i l. ⊎-elim (λ k. let d : i ≡ e - 1 = omega arith in rw d (omega arith)) (λ k. v .rest i (omega arith)) (le-or-lt i (e - 1));
+      rest = λ i l. ⊎-elim (v .rest i) (λ (k : i < e). b .zeros (not-false r z) i l (omega arith)) (le-or-lt e i);
     }
 
--- nothing is left
-pub used-none : (row : List ℕ) (e : ℕ) → Used row e → e ≤ 0 → Used row 0
-used-none row e v h = record { inside = omega arith; rest = λ i l. v .rest i (omega arith) }
+-- ---- a byte of squares out of a byte of the row
 
--- ---- a byte of ink out of a byte of the row
+-- a rule that passes the test at every number below n
+pub spread-by : (f : ℕ → ℕ) (dots phase n : ℕ) → T (all-below (λ b. eqb (f b) (spreadOf dots b phase)) n) → (b : ℕ) → b < n → f b ≡ spreadOf dots b phase
+spread-by f dots phase n t b h = eqb→eq (f b) (spreadOf dots b phase) (below (λ b. eqb (f b) (spreadOf dots b phase)) n t b h)
 
--- a rule for so many dots that passes the test at every byte and every place in its ink
-pub spreads : (f : ℕ → ℕ → ℕ) (dots : ℕ) → T (all-below (λ x. eqb (f (x % 256) (x / 256)) (spreadOf dots (x % 256) (x / 256))) (256 * dots))
-    → (b phase : ℕ) → b < 256 → phase < dots → f b phase ≡ spreadOf dots b phase
-spreads f dots t b phase h k =
-    let m : (256 * phase + b) % 256 ≡ b = omega arith in
-    let d : (256 * phase + b) / 256 ≡ phase = omega arith in
-    let x : ℕ = 256 * phase + b in
-    let r : T (eqb (f (x % 256) (x / 256)) (spreadOf dots (x % 256) (x / 256))) = below _ (256 * dots) t x (omega arith) in
-    rw (m, d) at (eqb→eq (f (x % 256) (x / 256)) (spreadOf dots (x % 256) (x / 256)) r)
+-- two rules that do at every byte
+same-by : (f g : ℕ → ℕ) → T (all-below (λ b. eqb (f b) (g b)) 256) → (b : ℕ) → b < 256 → f b ≡ g b
+same-by f g t b h = eqb→eq (f b) (g b) (below (λ b. eqb (f b) (g b)) 256 t b h)
 
--- one dot to a bit: the byte itself
-pub spread-one : (b dots phase : ℕ) → b < 256 → dots ≡ 1 → phase < dots → b ≡ spreadOf dots b phase
-unfolding spreadOf
-spread-one b dots phase h e k =
-    let p : phase ≡ 0 = omega arith in
-    sym (byteOf-cong (λ i. bit b ((8 * phase + i) / dots)) (bit b) (λ i l. let q : (8 * 0 + i) / 1 ≡ i = omega arith in rw (e, p, q)) ∙ byteOf-bit b h)
-
--- so many dots to a bit, as a test told
-pub spread-told : (b dots k phase r : ℕ) → dots ≡ k → r ≡ spreadOf k b phase → r ≡ spreadOf dots b phase
-spread-told b dots k phase r e f = rw e f
-
--- four dots to a bit, as it is no other number
-pub spread-last : (b dots phase r : ℕ) → 1 ≤ dots → dots ≤ 4 → (dots ≡ 1 → ⊥) → (dots ≡ 2 → ⊥) → (dots ≡ 3 → ⊥) → r ≡ spreadOf 4 b phase → r ≡ spreadOf dots b phase
-spread-last b dots phase r h k x y z = spread-told b dots 4 phase r (omega arith)
-
--- byte m of the ink of a row that begins at dot 0
-pub wideByte : List ℕ → ℕ → ℕ → ℕ
-wideByte row dots m = byteOf (λ i. dot row ((8 * m + i) / dots))
-
--- its bits
-wide-dot : (row : List ℕ) (dots m i : ℕ) → i < 8 → bit (wideByte row dots m) i ≡ dot row ((8 * m + i) / dots)
-unfolding wideByte
-wide-dot row dots m i h = bit-byteOf (λ i. dot row ((8 * m + i) / dots)) (λ i. dot-lt row ((8 * m + i) / dots)) i h
-
--- it is a byte
-wide-lt : (row : List ℕ) (dots m : ℕ) → wideByte row dots m < 256
-unfolding wideByte
-wide-lt row dots m = byteOf-lt (λ i. dot row ((8 * m + i) / dots)) (λ i. dot-lt row ((8 * m + i) / dots))
-
--- and comes of one byte of the row
-wide-spread : (row : List ℕ) (dots : ℕ) (p : Place) → p .phase < dots → spreadOf dots (getD row (p .byte) 0) (p .phase) ≡ wideByte row dots (before dots p)
-unfolding spreadOf wideByte
-wide-spread row dots p h =
-    byteOf-cong (λ i. bit (getD row (p .byte) 0) ((8 * p .phase + i) / dots)) (λ i. dot row ((8 * before dots p + i) / dots))
+-- it stands where the byte's squares stand
+square-spread : (row : List ℕ) (dots m phase : ℕ) → phase < dots → spreadOf dots (getD row m 0) phase ≡ squareAt row dots (m * dots + phase)
+unfolding spreadOf squareAt
+square-spread row dots m phase h =
+    byteOf-cong (λ i. bit (getD row m 0) ((8 * phase + i) / dots)) (λ i. dot row ((8 * (m * dots + phase) + i) / dots))
     (λ i l.
     let z : 0 < dots = omega arith in
-    let e : 8 * before dots p + i ≡ 8 * p .byte * dots + (8 * p .phase + i) = omega (arith, mul-assoc 8 (p .byte) dots) in
-    let t : (8 * p .phase + i) / dots < 8 = div-lt-iff-lt-mul z .1 (omega arith) in
-    rw (e, mul-add-div-right z (8 * p .byte) (8 * p .phase + i)) (sym (dot-at row (p .byte) ((8 * p .phase + i) / dots) t)))
+    let e : 8 * (m * dots + phase) + i ≡ 8 * m * dots + (8 * phase + i) = omega (arith, mul-assoc 8 m dots) in
+    let t : (8 * phase + i) / dots < 8 = div-lt-iff-lt-mul z .1 (omega arith) in
+    rw (e, mul-add-div-right z (8 * m) (8 * phase + i)) (sym (dot-at row m ((8 * phase + i) / dots) t)))
 
--- the byte before byte m
-pub last : List ℕ → ℕ → ℕ → ℕ
-last row dots zero = 0
-last row dots (suc m) = wideByte row dots m
+-- the dots of squares are the row's
+pub square-dot : (row : List ℕ) (dots m i : ℕ) → i < 8 → bit (squareAt row dots m) i ≡ dot row ((8 * m + i) / dots)
+unfolding squareAt
+square-dot row dots m i h = bit-byteOf (λ i. dot row ((8 * m + i) / dots)) (λ i. dot-lt row ((8 * m + i) / dots)) i h
 
--- ---- and shifted to where the row begins
+-- the first m bytes of squares are made
+pub record Making (row : List ℕ) (dots size m : ℕ) (list : List ℕ) : Type 0 where
+  pub same : length list ≡ size
+  pub done : (j : ℕ) → j < m → getD list j 0 ≡ squareAt row dots j
 
--- zero has no bit
-bit-zero : (i : ℕ) → bit 0 i ≡ 0
-unfolding bit
-bit-zero i = omega (arith, shr-le 0 (7 - i))
+-- at first none
+pub making-starts : (row : List ℕ) (dots m : ℕ) (list : List ℕ) → m ≡ 0 → Making row dots (length list) m list
+making-starts row dots m list e = record { same = refl; done = λ j l. absurd (omega arith) }
 
--- from dot `from` on the ink is the row's dots
-ink-at : (row : List ℕ) (dots from x d : ℕ) → x ≡ from + d → ink row dots from x ≡ dot row (d / dots)
-unfolding ink
-ink-at row dots from x d h =
-    let e : x - from ≡ d = omega arith in
-    rw (le-leb from x (omega arith), e)
-
--- before it there is none
-pub no-ink : (row : List ℕ) (dots from x : ℕ) → x < from → ink row dots from x ≡ 0
-unfolding ink
-no-ink row dots from x h = rw (lt-leb from x h)
-
-module _ (row : List ℕ) (dots from n : ℕ) where
-  -- what the window of two bytes shows
-  window : ℕ
-  window = (last row dots n * 256 + wideByte row dots n) / 2 ^ (from % 8) % 256
-
-  ink-right : (i : ℕ) → i < 8 → from % 8 ≤ i → bit window i ≡ ink row dots from (8 * (from / 8 + n) + i)
-  unfolding window
-  ink-right i k l =
-      shifted-cur (last row dots n) (wideByte row dots n) (wide-lt row dots n) (from % 8) i k l
-      ∙ wide-dot row dots n (i - from % 8) (omega arith)
-      ∙ sym (ink-at row dots from (8 * (from / 8 + n) + i) (8 * n + (i - from % 8)) (omega arith))
-
-ink-left : (row : List ℕ) (dots from n i : ℕ) → i < from % 8 → bit (window row dots from n) i ≡ ink row dots from (8 * (from / 8 + n) + i)
-unfolding window last
-ink-left row dots from zero i l =
-    shifted-carry 0 (wideByte row dots 0) (wide-lt row dots 0) (from % 8) i (omega arith) l
-    ∙ bit-zero ((8 + i) - from % 8) ∙ sym (no-ink row dots from (8 * (from / 8 + 0) + i) (omega arith))
-ink-left row dots from (suc n) i l =
-    shifted-carry (wideByte row dots n) (wideByte row dots (suc n)) (wide-lt row dots (suc n)) (from % 8) i (omega arith) l
-    ∙ wide-dot row dots n ((8 + i) - from % 8) (omega arith)
-    ∙ sym (ink-at row dots from (8 * (from / 8 + suc n) + i) (8 * n + ((8 + i) - from % 8)) (omega arith))
-
--- the window shows the ink of its byte
-window-ink : (row : List ℕ) (dots from n : ℕ) → window row dots from n ≡ inkByte row dots from (from / 8 + n)
-unfolding inkByte
-window-ink row dots from n =
-    sym (byteOf-bit (window row dots from n) (unfold window in omega arith))
-    ∙ byteOf-cong (bit (window row dots from n)) (λ i. ink row dots from (8 * (from / 8 + n) + i))
-    (λ i h. ⊎-elim (λ l. ink-right row dots from n i h l) (λ l. ink-left row dots from n i l) (le-or-lt (from % 8) i))
-
--- the bytes before byte j of a page row's ink are made, and the next one comes of place `at`
-pub record Making (row : List ℕ) (dots from n : ℕ) (list : List ℕ) (j : ℕ) (at : Place) (carry : ℕ) : Type 0 where
-  pub within : at .phase < dots
-  pub place : j ≡ from / 8 + before dots at
-  pub near : at .byte ≤ j
-  pub held : carry ≡ last row dots (before dots at)
-  pub small : carry < 256
-  pub same : length list ≡ n
-  pub done : (m : ℕ) → m < j → getD list m 0 ≡ inkByte row dots from m
-
--- a byte of which every dot is blank
-blank-byte : (row : List ℕ) (dots from j : ℕ) → ((i : ℕ) → i < 8 → ink row dots from (8 * j + i) ≡ 0) → inkByte row dots from j ≡ 0
-unfolding inkByte
-blank-byte row dots from j h = byteOf-cong (λ i. ink row dots from (8 * j + i)) (λ i. 0) h ∙ unfold byteOf in refl
-
--- at first those before the row's first dot
-pub making-starts : (row : List ℕ) (dots from : ℕ) (list : List ℕ) → 1 ≤ dots → ((j : ℕ) → getD list j 0 ≡ 0)
-    → Making row dots from (length list) list (from / 8) (record { byte = 0; phase = 0 }) 0
-unfolding last
-making-starts row dots from list h z =
-    record {
-      within = omega arith;
-      place = omega arith;
-      near = omega arith;
-      held = let e : 0 * dots + 0 ≡ 0 = omega arith in rw e;
-      small = omega arith;
-      same = refl;
-      done = λ m l. z m ∙ sym (blank-byte row dots from m (λ i k. no-ink row dots from (8 * m + i) (omega arith)));
-    }
-
--- one byte more
-pub making-again : (row : List ℕ) (dots from n : ℕ) (list : List ℕ) (j : ℕ) (at : Place) (carry s b d cur : ℕ) (next : Place)
-    → Making row dots from n list j at carry → s ≡ from % 8 → j < length list → b ≡ getD row (at .byte) 0 → d ≡ spreadOf dots b (at .phase) → cur ≡ d → cur < 256
-    → After dots at next
-    → Making row dots from n (set list j ((carry * 256 + cur) / 2 ^ s % 256)) (j + 1) next cur
-unfolding last
-making-again row dots from n list j at carry s b d cur next v e h f g c k o =
-    let p : ℕ = before dots at in
-    let w : cur ≡ wideByte row dots p = c ∙ g ∙ rw f (wide-spread row dots at (v .within)) in
-    let z : 0 < dots = omega (arith, v .within) in
-    let y : before dots next ≡ suc p = o .on ∙ add-one p in
-    record {
-      within = o .within;
-      place = omega (arith, v .place, o .on);
-      near = omega (arith, v .place, o .on, le-mul-of-pos-right (next .byte) z);
-      held = rw y w;
-      small = k;
-      same = length-set list j _ ∙ v .same;
+-- one more
+making-more : (row : List ℕ) (dots size m : ℕ) (list : List ℕ) (byte phase k v : ℕ) → Making row dots size m list → m < size
+    → m ≡ byte * dots + phase → phase < dots → k ≡ m + 1 → v ≡ spreadOf dots (getD row byte 0) phase → Making row dots size k (set list m v)
+making-more row dots size m list byte phase k v d h e p q g =
+    rw q
+    (record {
+      same = length-set list m _ ∙ d .same;
       done =
-          below-more _ _ (λ m l. rw (getD-set-other list j m _ 0 (λ q. omega arith)) (v .done m l))
-          (rw (getD-set-same list j _ 0 h, e, v .held, w, v .place) (unfold window in window-ink row dots from p));
-    }
+          below-more _ _ (λ j l. rw (getD-set-other list m j _ 0 (λ q. omega arith)) (d .done j l))
+          (rw (getD-set-same list m _ 0 (omega (arith, d .same))) (g ∙ square-spread row dots byte phase p ∙ ap (squareAt row dots) (sym e)));
+    })
+
+-- the two of a byte
+pub made-two : (row : List ℕ) (size i x y : ℕ) (list : List ℕ) → Making row 2 size (2 * i) list → 2 * i + 1 < size → getD row i 0 < 256
+    → x ≡ spreadOf 2 (getD row i 0 / 16) 1 → y ≡ spreadOf 2 (getD row i 0 % 16) 1 → Making row 2 size (2 * (i + 1)) (set (set list (2 * i) x) (2 * i + 1) y)
+made-two row size i x y list d h s f g =
+    making-more row 2 size (2 * i + 1) _ i 1 _ y
+    (making-more row 2 size (2 * i) list i 0 (2 * i + 1) x d (omega arith) (omega arith) (omega arith) refl (f ∙ same-by (λ b. spreadOf 2 (b / 16) 1) (λ b. spreadOf 2 b 0) (unfold spreadOf in unfold byteOf in unfold bit in tt) _ s))
+    h (omega arith) (omega arith) (omega arith) (g ∙ same-by (λ b. spreadOf 2 (b % 16) 1) (λ b. spreadOf 2 b 1) (unfold spreadOf in unfold byteOf in unfold bit in tt) _ s)
+
+-- the three of a byte
+pub made-three : (row : List ℕ) (size i x y z : ℕ) (list : List ℕ) → Making row 3 size (3 * i) list → 3 * i + 2 < size
+    → x ≡ spreadOf 3 (getD row i 0) 0 → y ≡ spreadOf 3 (getD row i 0) 1 → z ≡ spreadOf 3 (getD row i 0) 2
+    → Making row 3 size (3 * (i + 1)) (set (set (set list (3 * i) x) (3 * i + 1) y) (3 * i + 2) z)
+made-three row size i x y z list d h f g k =
+    making-more row 3 size (3 * i + 2) _ i 2 _ z
+    (making-more row 3 size (3 * i + 1) _ i 1 (3 * i + 2) y
+    (making-more row 3 size (3 * i) list i 0 (3 * i + 1) x d (omega arith) (omega arith) (omega arith) refl f)
+    (omega arith) (omega arith) (omega arith) (omega arith) g)
+    h (omega arith) (omega arith) (omega arith) k
+
+-- the four of a byte
+pub made-four : (row : List ℕ) (size i x y z w : ℕ) (list : List ℕ) → Making row 4 size (4 * i) list → 4 * i + 3 < size → getD row i 0 < 256
+    → x ≡ spreadOf 4 (getD row i 0 / 64) 3 → y ≡ spreadOf 4 (getD row i 0 / 16 % 4) 3 → z ≡ spreadOf 4 (getD row i 0 / 4 % 4) 3 → w ≡ spreadOf 4 (getD row i 0 % 4) 3
+    → Making row 4 size (4 * (i + 1)) (set (set (set (set list (4 * i) x) (4 * i + 1) y) (4 * i + 2) z) (4 * i + 3) w)
+made-four row size i x y z w list d h s f g k o =
+    making-more row 4 size (4 * i + 3) _ i 3 _ w
+    (making-more row 4 size (4 * i + 2) _ i 2 (4 * i + 3) z
+    (making-more row 4 size (4 * i + 1) _ i 1 (4 * i + 2) y
+    (making-more row 4 size (4 * i) list i 0 (4 * i + 1) x d (omega arith) (omega arith) (omega arith) refl (f ∙ same-by (λ b. spreadOf 4 (b / 64) 3) (λ b. spreadOf 4 b 0) (unfold spreadOf in unfold byteOf in unfold bit in tt) _ s))
+    (omega arith) (omega arith) (omega arith) (omega arith) (g ∙ same-by (λ b. spreadOf 4 (b / 16 % 4) 3) (λ b. spreadOf 4 b 1) (unfold spreadOf in unfold byteOf in unfold bit in tt) _ s))
+    (omega arith) (omega arith) (omega arith) (omega arith) (k ∙ same-by (λ b. spreadOf 4 (b / 4 % 4) 3) (λ b. spreadOf 4 b 2) (unfold spreadOf in unfold byteOf in unfold bit in tt) _ s))
+    h (omega arith) (omega arith) (omega arith) (o ∙ same-by (λ b. spreadOf 4 (b % 4) 3) (λ b. spreadOf 4 b 3) (unfold spreadOf in unfold byteOf in unfold bit in tt) _ s)
 
 -- all are made
-pub making-ends : (row : List ℕ) (dots from n : ℕ) (list : List ℕ) (j : ℕ) (at : Place) (carry : ℕ) → Making row dots from n list j at carry → length list ≤ j → Inked row dots from n list
-making-ends row dots from n list j at carry v h = record { same = v .same; is = λ m l. v .done m (omega (arith, v .same)) }
+pub making-ends : (row : List ℕ) (dots n size i : ℕ) (list : List ℕ) → Making row dots size (dots * i) list → n ≡ i → Squared row dots n size list
+making-ends row dots n size i list v e = rw e (record { same = v .same; is = v .done })
 
--- ---- where it ends
+-- so many dots to a bit, as a test told
+pub squared-told : (row : List ℕ) (dots k n size : ℕ) (list : List ℕ) → dots ≡ k → Squared row k n size list → Squared row dots n size list
+squared-told row dots k n size list e v = rw e v
 
--- behind the last used byte of the row there is no ink
-pub no-ink-behind : (row : List ℕ) (dots from e j : ℕ) → 0 < dots → Used row e → from / 8 + e * dots + 1 ≤ j → inkByte row dots from j ≡ 0
-no-ink-behind row dots from e j z u h = blank-byte row dots from j blank
-  where
-    blank : (i : ℕ) → i < 8 → ink row dots from (8 * j + i) ≡ 0
-    blank i l =
-        let d : ℕ = (8 * j + i) - from in
-        let m : 8 * e * dots ≤ d = omega (arith, mul-assoc 8 e dots) in
-        let q : 8 * e ≤ d / dots = le-div-iff-mul-le z .1 m in
-        let x : 8 * j + i ≡ from + d = omega (arith, mul-assoc 8 e dots) in
-        let y : d / dots ≡ 8 * (d / dots / 8) + d / dots % 8 = omega arith in
-        ink-at row dots from (8 * j + i) d x ∙ ap (dot row) y ∙ dot-at row (d / dots / 8) (d / dots % 8) (omega arith)
-        ∙ rw (u .rest (d / dots / 8) (omega arith)) (bit-zero (d / dots % 8))
+-- four, as it is no other number
+pub squared-last : (row : List ℕ) (dots n size : ℕ) (list : List ℕ) → 2 ≤ dots → dots ≤ 4 → (dots ≡ 2 → ⊥) → (dots ≡ 3 → ⊥) → Squared row 4 n size list → Squared row dots n size list
+squared-last row dots n size list h k x y = squared-told row dots 4 n size list (omega arith)
 
--- the row's last used byte, and the page row's end, tell where the ink ends
-pub reaches : (row : List ℕ) (dots from w u e n : ℕ) → 1 ≤ dots → Used row u → e ≡ min u 600 → n ≡ min w (from / 8 + e * dots + 1) → Reach row dots from w n
-reaches row dots from w u e n z r p q =
-    record {
-      behind = λ s j l m.
-          let d : e ≡ u = omega (arith, le-mul-of-pos-right e z) in
-          let h : from / 8 + e * dots + 1 ≤ j = omega arith in
-          no-ink-behind row dots from u j z r (rw d at h);
-    }
+-- there is room for them
+pub room-told : (dots k n m : ℕ) → dots ≡ k → dots * n ≤ m → k * n ≤ m
+room-told dots k n m e h = rw e at h
 
--- ink of at most 600 bytes of a row is at most 2400 bytes
-pub ink-room : (u e dots : ℕ) → e ≡ min u 600 → dots ≤ 4 → e * dots ≤ 2400
-ink-room u e dots h k = le-trans (mul-le-mul-right dots (omega arith)) (mul-le-mul-left 600 k)
+-- and for four
+pub room-last : (dots n m : ℕ) → 2 ≤ dots → dots ≤ 4 → (dots ≡ 2 → ⊥) → (dots ≡ 3 → ⊥) → dots * n ≤ m → 4 * n ≤ m
+room-last dots n m h k x y = room-told dots 4 n m (omega arith)

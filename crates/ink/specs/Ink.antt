@@ -1,39 +1,29 @@
--- The ink of a page row, by bytes.
+-- The squares of a row, by bytes, and where its last dots are.
 use mathlib.Core.Path.{_≡_}
+use mathlib.Core.Bool.{Bool, true}
 use mathlib.Core.List.{List}
 use Prim.Native.Nat.{ℕ, _+_, _*_, _/_, _≤_, _<_}
 use lib.ListN.{length, getD}
-use Rattle.common.specs.Bits.{bit, byteOf}
-use Rattle.rules.specs.Dots.{ink}
-use Rattle.ink.specs.declared.Place.{Place}
-
--- byte j of what a row sets in each of its page rows
-unfoldable pub inkByte : List ℕ → ℕ → ℕ → ℕ → ℕ
-inkByte row dots from j = byteOf (λ i. ink row dots from (8 * j + i))
+use Rattle.common.specs.Bits.{bit, dot, byteOf}
 
 -- the row has no ink from its byte r on
 pub record Used (row : List ℕ) (r : ℕ) : Type 0 where
   pub inside : r ≤ length row
   pub rest : (i : ℕ) → r ≤ i → getD row i 0 ≡ 0
 
+-- the answer r is yes only if the sixteen bytes from a place on are zero
+pub record Blank (row : List ℕ) (at : ℕ) (r : Bool) : Type 0 where
+  pub zeros : r ≡ true → (i : ℕ) → at ≤ i → i < at + 16 → getD row i 0 ≡ 0
+
 -- byte `phase` of the ink of the byte b: each bit as so many dots
 unfoldable pub spreadOf : ℕ → ℕ → ℕ → ℕ
 spreadOf dots b phase = byteOf (λ i. bit b ((8 * phase + i) / dots))
 
--- the bytes of ink before a place
-abbrev pub before : ℕ → Place → ℕ
-before dots p = p .byte * dots + p .phase
+-- byte j of a row with so many dots to a bit
+unfoldable pub squareAt : List ℕ → ℕ → ℕ → ℕ
+squareAt row dots j = byteOf (λ i. dot row ((8 * j + i) / dots))
 
--- r is one byte of ink on from p
-pub record After (dots : ℕ) (p r : Place) : Type 0 where
-  pub within : r .phase < dots
-  pub on : before dots r ≡ before dots p + 1
-
--- the first n bytes of a page row's ink stand in the list
-pub record Inked (row : List ℕ) (dots from n : ℕ) (list : List ℕ) : Type 0 where
-  pub same : length list ≡ n
-  pub is : (j : ℕ) → j < n → getD list j 0 ≡ inkByte row dots from j
-
--- a page row of w bytes has no ink from its byte r on, where r is at most 600
-pub record Reach (row : List ℕ) (dots from w r : ℕ) : Type 0 where
-  pub behind : r ≤ 600 → (j : ℕ) → j < w → r ≤ j → inkByte row dots from j ≡ 0
+-- the first n bytes of a row, with so many dots to a bit, stand at the front of a list of so many bytes
+pub record Squared (row : List ℕ) (dots n size : ℕ) (list : List ℕ) : Type 0 where
+  pub same : length list ≡ size
+  pub is : (j : ℕ) → j < dots * n → getD list j 0 ≡ squareAt row dots j

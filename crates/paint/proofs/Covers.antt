@@ -10,7 +10,7 @@ use lib.Seq.{take-all, take-nil, drop-nil, take-at, drop-at, length-take-le}
 use Rattle.common.proofs.Choices.{le-or-lt}
 use Rattle.common.proofs.Parts.{row-step, put-back, back-length}
 use Rattle.rules.specs.Dots.{inkedLine, inkedLines, painted}
-use Rattle.walk.proofs.Lines.{line-length}
+use Rattle.lay.proofs.Lines.{line-length}
 
 -- no page, nothing painted
 lines-none : (w : ℕ) (row : List ℕ) (dots from n : ℕ) → inkedLines w row dots from n [] ≡ []
@@ -25,14 +25,14 @@ lines-narrow row dots from zero page = refl
 lines-narrow row dots from (suc n) page = lines-narrow row dots from n page
 
 -- the page rows before byte a are painted, and n are still to be
-pub record Covering (w : ℕ) (row : List ℕ) (dots from : ℕ) (before page : List ℕ) (a n : ℕ) : Type 0 where
+pub record Covering (w : ℕ) (row : List ℕ) (dots from lines : ℕ) (before page : List ℕ) (a n : ℕ) : Type 0 where
   pub inside : a ≤ length page
   pub same : length page ≡ length before
-  pub is : inkedLines w row dots from dots before ≡ take a page ++ inkedLines w row dots from n (drop a page)
+  pub is : inkedLines w row dots from lines before ≡ take a page ++ inkedLines w row dots from n (drop a page)
 
 -- at first all are
-pub covering-starts : (w : ℕ) (row : List ℕ) (dots from : ℕ) (before : List ℕ) → Covering w row dots from before before 0 dots
-covering-starts w row dots from before = record { inside = omega arith; same = refl; is = refl }
+pub covering-starts : (w : ℕ) (row : List ℕ) (dots from lines : ℕ) (before : List ℕ) → Covering w row dots from lines before before 0 lines
+covering-starts w row dots from lines before = record { inside = omega arith; same = refl; is = refl }
 
 -- the next page row is what is left of the page, at most w bytes
 next-row : (w c : ℕ) (rest : List ℕ) → c ≡ min w (length rest) → (take c rest ≡ take w rest) × (drop c rest ≡ drop w rest)
@@ -48,11 +48,11 @@ next-row w c rest e = ⊎-elim whole short (le-or-lt w (length rest))
         (rw (take-all c rest l, take-all w rest m), rw (drop-of-length-le rest l, drop-of-length-le rest m))
 
 -- one page row is painted, and has come back
-pub covering-again : (w : ℕ) (row : List ℕ) (dots from : ℕ) (before page part : List ℕ) (a n c : ℕ) → Covering w row dots from before page a n
+pub covering-again : (w : ℕ) (row : List ℕ) (dots from lines : ℕ) (before page part : List ℕ) (a n c : ℕ) → Covering w row dots from lines before page a n
     → 0 < n → c ≡ min w (length page - a) → part ≡ inkedLine row dots from 0 (take ((a + c) - a) (drop a page))
-    → Covering w row dots from before (put-back page a ((a + c) - a) part) (a + c) (n - 1)
+    → Covering w row dots from lines before (put-back page a ((a + c) - a) part) (a + c) (n - 1)
 unfolding inkedLines
-covering-again w row dots from before page part a n c v p e g =
+covering-again w row dots from lines before page part a n c v p e g =
     let m : (a + c) - a ≡ c = omega arith in
     let f : a + c ≤ length page = omega (arith, v .inside) in
     let q : c ≡ min w (length (drop a page)) = simp length-drop e in
@@ -72,15 +72,15 @@ covering-again w row dots from before page part a n c v p e g =
     })
 
 -- all are painted
-pub covering-ends : (w : ℕ) (row : List ℕ) (dots from : ℕ) (before page : List ℕ) (a n : ℕ) → Covering w row dots from before page a n → n ≤ 0
-    → page ≡ inkedLines w row dots from dots before
+pub covering-ends : (w : ℕ) (row : List ℕ) (dots from lines : ℕ) (before page : List ℕ) (a n : ℕ) → Covering w row dots from lines before page a n → n ≤ 0
+    → page ≡ inkedLines w row dots from lines before
 unfolding inkedLines
-covering-ends w row dots from before page a n v h = let z : n ≡ 0 = omega arith in sym (v .is ∙ rw (z, take-append-drop))
+covering-ends w row dots from lines before page a n v h = let z : n ≡ 0 = omega arith in sym (v .is ∙ rw (z, take-append-drop))
 
 -- the page ends before they are
-pub covering-stops : (w : ℕ) (row : List ℕ) (dots from : ℕ) (before page : List ℕ) (a n : ℕ) → Covering w row dots from before page a n → length page ≤ a
-    → page ≡ inkedLines w row dots from dots before
-covering-stops w row dots from before page a n v h = sym (v .is ∙ rw (drop-of-length-le page h, lines-none, take-all a page h) (append-nil page))
+pub covering-stops : (w : ℕ) (row : List ℕ) (dots from lines : ℕ) (before page : List ℕ) (a n : ℕ) → Covering w row dots from lines before page a n → length page ≤ a
+    → page ≡ inkedLines w row dots from lines before
+covering-stops w row dots from lines before page a n v h = sym (v .is ∙ rw (drop-of-length-le page h, lines-none, take-all a page h) (append-nil page))
 
 -- page rows of no bytes: the page stays
 pub painted-narrow : (w : ℕ) (row : List ℕ) (dots from line : ℕ) (page : List ℕ) → w ≡ 0 → page ≡ painted w row dots from line page

@@ -1,4 +1,4 @@
--- The laws of painting.
-pub mod Laying
 pub mod Covers
+pub mod Alike
+pub mod Squares
 pub mod Rule

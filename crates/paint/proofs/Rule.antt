@@ -1,7 +1,7 @@
 -- What a painted page has at each of its dots: "each set bit becomes a square", "clipped to the page", "other dots stay". Assumes nothing.
 use mathlib.Core.Path.{_≡_, sym, ap, _∙_}
 use mathlib.Core.Bool.{true, false, cond, _&&_}
-use mathlib.Core.List.{List, [], _∷_, _++_}
+use mathlib.Core.List.{List, _++_}
 use mathlib.Core.Logic.{⊎-elim}
 use Prim.Native.Nat.{ℕ, zero, suc, _+_, _-_, _*_, _/_, _%_, _≤_, _<_, max}
 use native.Mathlib.Omega.{arith}
@@ -16,15 +16,8 @@ use Rattle.common.proofs.Choices.{le-or-lt, choice-by, and-true}
 use Rattle.common.proofs.Parts.{row-step}
 use Rattle.rules.specs.Dots.{ink, inkedByte, inkedLine, inkedLines, painted}
 use Rattle.paint.specs.Pages.{pageRow}
-use Rattle.walk.proofs.Walking.{ink-lt}
-use Rattle.walk.proofs.Lines.{line-length}
-
--- byte m of a painted page row
-line-at : (row : List ℕ) (dots from j : ℕ) (p : List ℕ) (m : ℕ) → m < length p → getD (inkedLine row dots from j p) m 0 ≡ inkedByte row dots from (j + m) (getD p m 0)
-unfolding inkedLine
-line-at row dots from j [] m h = absurd (not-suc-le-zero h)
-line-at row dots from j (b ∷ p) zero h = let e : j + 0 ≡ j = omega arith in rw e
-line-at row dots from j (b ∷ p) (suc m) h = let e : j + suc m ≡ suc j + m = omega arith in rw e (line-at row dots from (suc j) p m (le-of-suc-le-suc h))
+use Rattle.lay.proofs.Inks.{ink-lt}
+use Rattle.lay.proofs.Lines.{line-length, line-at}
 
 -- dot x of a painted page row: it was set, or has ink
 line-dot : (row : List ℕ) (dots from : ℕ) (p : List ℕ) (x : ℕ) → x < 8 * length p → dot (inkedLine row dots from 0 p) x ≡ max (dot p x) (ink row dots from x)

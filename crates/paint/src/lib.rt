@@ -1,72 +1,55 @@
 // A row painted on a page. Refuses nothing: what lies beyond the page is not painted.
-use ink::make_ink;
-use ink::reach;
+use ink::squares;
+use ink::used;
+use lay::lay;
 use walk::paint_slowly;
 ghost use mathlib.Core.Path.{_≡_};
-ghost use Prim.Native.Nat.{_≤_};
-ghost use lib.ListN.{length};
-ghost use Rattle.rules.specs.Dots.{inkedLine, inkedLines, painted};
-ghost use Rattle.ink.specs.Ink.{Reach};
-ghost use Rattle.paint.specs.Laid.{Ready, ored};
+ghost use Prim.Native.Nat.{_≤_, _<_};
+ghost use Rattle.rules.specs.Dots.{inkedLines, painted};
+ghost use Rattle.ink.specs.Ink.{Used};
 
-// The ink or-ed into a part of a page row, byte by byte.
-fn lay(part: &mut [u8], ink: &[u8])
-    ensures { λ _. ⌜ now (part .exit) ≡ ored (now (part .entry)) (now (ink .entry)) ⌝ }
+// So many page rows, each lent on to be painted with a source, one dot to a bit, as far as the page goes.
+fn lay_lines(page: &mut [u8], wide: usize, src: &[u8], lines: usize, from: usize)
+    ensures { λ _. ⌜ now (page .exit) ≡ inkedLines wide (now (src .entry)) 1 from lines (now (page .entry)) ⌝ }
 {
-    let n = common::least(part.len(), ink.len());
-    let mut j: usize = 0;
-    while j < n {
-        part[j] = part[j] | ink[j];
-        j += 1;
+    let mut a: usize = 0;
+    let mut n = lines;
+    while 0 < n && a < page.len() {
+        let b = a + common::least(wide, page.len() - a);
+        lay(&mut page[a..b], src, from);
+        a = b;
+        n -= 1;
     }
 }
 
-// A page row painted: with the ink, where it was made.
-fn paint_line(part: &mut [u8], row: &[u8], dots: usize, from: usize, ink: &[u8], made: bool)
-    requires { ⌜ Ready (now row) dots from (length (now part)) (now ink) made ⌝ }
-    ensures { λ _. ⌜ now (part .exit) ≡ inkedLine (now (row .entry)) dots from 0 (now (part .entry)) ⌝ }
-{
-    if made {
-        lay(part, ink);
-        return;
-    }
-    paint_slowly(part, row, dots, from);
-}
-
-// The page rows of a row's squares, each lent on to be painted, as far as the page goes.
-fn paint_lines(
-    page: &mut [u8],
-    wide: usize,
-    row: &[u8],
-    dots: usize,
-    from: usize,
-    ink: &[u8],
-    made: bool,
-)
-    requires { ⌜ Ready (now row) dots from wide (now ink) made ⌝ }
+// The page rows of a row's squares, each lent on to be painted dot by dot.
+fn slow_lines(page: &mut [u8], wide: usize, row: &[u8], dots: usize, from: usize)
+    requires { ⌜ 0 < dots ⌝ }
     ensures { λ _. ⌜ now (page .exit) ≡ inkedLines wide (now (row .entry)) dots from dots (now (page .entry)) ⌝ }
 {
     let mut a: usize = 0;
     let mut n = dots;
     while 0 < n && a < page.len() {
         let b = a + common::least(wide, page.len() - a);
-        paint_line(&mut page[a..b], row, dots, from, ink, made);
+        paint_slowly(&mut page[a..b], row, dots, from);
         a = b;
         n -= 1;
     }
 }
 
-// The page from the row's first page row on, with n bytes of ink made once.
-fn paint_inked(page: &mut [u8], wide: usize, row: &[u8], dots: usize, from: usize, n: usize)
-    requires { ⌜ (1 ≤ dots) × (dots ≤ 4) × (n ≤ 600) × Reach (now row) dots from wide n ⌝ }
+// The page from the row's first page row on, with the squares of the row's first e bytes made once, as far as a page row goes.
+fn lay_squares(page: &mut [u8], wide: usize, row: &[u8], dots: usize, from: usize, e: usize)
+    requires { ⌜ (2 ≤ dots) × (dots ≤ 4) × (wide ≤ 600) × Used (now row) e ⌝ }
     ensures { λ _. ⌜ now (page .exit) ≡ inkedLines wide (now (row .entry)) dots from dots (now (page .entry)) ⌝ }
 {
-    let mut ink = [0u8; 600];
-    make_ink(&mut ink[..n], row, dots, from);
-    paint_lines(page, wide, row, dots, from, &ink[..n], true);
+    let mut ink = [0u8; 604];
+    let n = common::least(e, wide / dots + 1);
+    let m = dots * n;
+    squares(&mut ink[..m], row, n, dots);
+    lay_lines(page, wide, &ink[..m], dots, from);
 }
 
-// The page from the row's first page row on. Squares of more than four dots, and ink of more than 600 bytes, which no page
+// The page from the row's first page row on. Squares of more than four dots, and on page rows of more than 600 bytes, which no page
 // has, are painted slowly.
 fn paint_rest(page: &mut [u8], wide: usize, row: &[u8], dots: usize, from: usize)
     ensures { λ _. ⌜ now (page .exit) ≡ inkedLines wide (now (row .entry)) dots from dots (now (page .entry)) ⌝ }
@@ -74,16 +57,23 @@ fn paint_rest(page: &mut [u8], wide: usize, row: &[u8], dots: usize, from: usize
     if dots == 0 {
         return;
     }
+    let e = used(row);
+    if e == 0 {
+        return;
+    }
+    if dots == 1 {
+        lay_lines(page, wide, &row[..e], 1, from);
+        return;
+    }
     if 4 < dots {
-        paint_lines(page, wide, row, dots, from, row, false);
+        slow_lines(page, wide, row, dots, from);
         return;
     }
-    let n = reach(wide, row, dots, from);
-    if 600 < n {
-        paint_lines(page, wide, row, dots, from, row, false);
+    if 600 < wide {
+        slow_lines(page, wide, row, dots, from);
         return;
     }
-    paint_inked(page, wide, row, dots, from, n);
+    lay_squares(page, wide, row, dots, from, e);
 }
 
 // A row painted from dot (from, line) on, with squares of so many dots; `wide` bytes are a page row. Other dots stay.

@@ -1,41 +1,24 @@
 -- A page row painted in place, byte by byte, and dot by dot. Assumes nothing.
 use mathlib.Core.Path.{_≡_, refl, sym, ap, _∙_}
-use mathlib.Core.List.{List, [], _∷_, _++_, append-assoc, append-nil}
-use Prim.Native.Nat.{ℕ, suc, _+_, _*_, _≤_, _<_, max}
+use mathlib.Core.List.{List, [], _∷_, _++_, append-nil}
+use Prim.Native.Nat.{ℕ, _+_, _-_, _*_, _≤_, _<_}
 use native.Mathlib.Omega.{arith}
 use native.Mathlib.Numerals.{add-one}
-use lib.Bits.{bitOr, or-lt}
+use lib.Bits.{bitOr}
 use lib.ListN.{length, getD, take, drop, set, length-set, drop-of-length-le}
-use lib.Seq.{take-all, take-suc-set, drop-set-lt}
-use Rattle.common.specs.Bits.{bit, byteOf}
-use Rattle.common.proofs.Bits.{bit-or, byteOf-cong, byteOf-bit, byteOf-lt, bit-byteOf}
+use lib.Seq.{take-all, drop-set-lt}
+use Rattle.common.proofs.Bits.{byteOf-lt}
 use Rattle.common.proofs.Places.{cut}
-use Rattle.rules.specs.Dots.{ink, inkedByte, inkedLine}
-use Rattle.ink.specs.Ink.{inkByte}
+use Rattle.common.proofs.Parts.{put-back}
+use Rattle.rules.specs.Dots.{ink, inkedLine}
+use Rattle.lay.specs.Laid.{inkByte}
 use Rattle.walk.specs.declared.Walk.{Walk}
 use Rattle.walk.specs.declared.Eight.{Eight}
 use Rattle.walk.specs.Walks.{Stands, Eighth}
-use Rattle.walk.proofs.Walking.{ink-lt, stands-first, stands-near}
-
--- a byte with the byte of its ink or-ed in is the inked byte
-pub or-ink : (row : List ℕ) (dots from j b k : ℕ) → b < 256 → k ≡ inkByte row dots from j → bitOr b k ≡ inkedByte row dots from j b
-unfolding inkByte inkedByte
-or-ink row dots from j b k h e =
-    let f : ℕ → ℕ = λ i. ink row dots from (8 * j + i) in
-    let s : (i : ℕ) → f i < 2 = λ i. ink-lt row dots from (8 * j + i) in
-    rw e
-    (sym (byteOf-bit (bitOr b (byteOf f)) (or-lt 8 b (byteOf f) h (byteOf-lt f s)))
-    ∙ byteOf-cong (bit (bitOr b (byteOf f))) (λ i. max (bit b i) (f i)) (λ i l. rw (bit-or, bit-byteOf f s i l)))
-
--- painting keeps the length of a page row
-pub line-length : (row : List ℕ) (dots from j : ℕ) (p : List ℕ) → length (inkedLine row dots from j p) ≡ length p
-unfolding inkedLine
-line-length row dots from j [] = refl
-line-length row dots from j (b ∷ p) = ap suc (line-length row dots from (suc j) p)
-
--- a byte stored behind j bytes that are ready
-pub stored : (l : List ℕ) (j v : ℕ) (q : List ℕ) → j < length l → take (j + 1) (set l j v) ++ q ≡ take j l ++ (v ∷ q)
-stored l j v q h = rw (add-one, take-suc-set l j v h, append-assoc)
+use Rattle.lay.proofs.Inks.{ink-lt}
+use Rattle.lay.proofs.Lines.{or-ink, stored}
+use Rattle.lay.proofs.Laying.{laid-one}
+use Rattle.walk.proofs.Walking.{stands-first, stands-near}
 
 -- the first j bytes of a page row are painted
 pub record Inking (row : List ℕ) (dots from : ℕ) (before part : List ℕ) (j : ℕ) : Type 0 where
@@ -79,7 +62,7 @@ walking-starts row dots from before h =
     record { inked = inking-starts row dots from before; stands = stands-first dots from h; near = omega arith }
 
 -- one byte more is
-pub walking-again : (row : List ℕ) (dots from : ℕ) (before part : List ℕ) (at : Walk) (j : ℕ) (e : Eight) → Walking row dots from before part at j
+walking-again : (row : List ℕ) (dots from : ℕ) (before part : List ℕ) (at : Walk) (j : ℕ) (e : Eight) → Walking row dots from before part at j
     → j < length part → getD part j 0 < 256 → Eighth row dots at e
     → Walking row dots from before (set part j (bitOr (getD part j 0) (e .ink))) (e .next) (j + 1)
 unfolding inkByte
@@ -91,3 +74,12 @@ walking-again row dots from before part at j e v h b g =
       stands = s;
       near = omega (arith, stands-near dots from (8 * (j + 1)) (e .next) s);
     }
+
+-- one byte more is: the page row was lent from it on, to be painted with one byte
+pub walking-laid : (row : List ℕ) (dots from : ℕ) (before part after : List ℕ) (at : Walk) (j : ℕ) (e : Eight) → Walking row dots from before part at j
+    → j < length part → ((i : ℕ) → getD part i 0 < 256) → Eighth row dots at e
+    → after ≡ inkedLine (e .ink ∷ []) 1 0 0 (take (length part - j) (drop j part)) → Walking row dots from before (put-back part j (length part - j) after) (e .next) (j + 1)
+walking-laid row dots from before part after at j e v h s g l =
+    let f : ℕ → ℕ = λ i. ink row dots from (8 * j + i) in
+    let k : e .ink < 256 = rw (g .inks from (8 * j) (v .stands)) (byteOf-lt f (λ i. ink-lt row dots from (8 * j + i))) in
+    rw (laid-one part after j (e .ink) h k s l) (walking-again row dots from before part at j e v h (s j) g)

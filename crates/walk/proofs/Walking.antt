@@ -11,9 +11,10 @@ use lib.Dec.{leb}
 use lib.ListN.{getD}
 use borrow.Author.Tests.{le-leb, lt-leb}
 use Rattle.common.specs.Bits.{bit, dot, byteOf}
-use Rattle.common.proofs.Choices.{le-or-lt, choice}
-use Rattle.common.proofs.Bits.{dot-at, dot-lt}
+use Rattle.common.proofs.Choices.{le-or-lt}
+use Rattle.common.proofs.Bits.{dot-at}
 use Rattle.rules.specs.Dots.{ink}
+use Rattle.lay.proofs.Inks.{ink-lt}
 use Rattle.walk.specs.declared.Walk.{Walk}
 use Rattle.walk.specs.Walks.{Onward, Seen, Stands, Eighth}
 
@@ -52,11 +53,6 @@ seen-ink row dots from x w r s v = ⊎-elim sees waits (le-or-lt (w .skip) 0)
 
     waits : 0 < w .skip → r ≡ cond (leb from x) (dot row ((x - from) / dots)) 0
     waits h = v .waits h ∙ rw (lt-leb from x (omega (arith, s .place, s .waits h)))
-
--- ink is a dot
-pub ink-lt : (row : List ℕ) (dots from x : ℕ) → ink row dots from x < 2
-unfolding ink
-ink-lt row dots from x = choice (λ n. n < 2) (leb from x) (dot-lt row ((x - from) / dots)) (omega arith)
 
 -- the bit there, where nothing is to be skipped
 pub saw : (row : List ℕ) (w : Walk) (b : ℕ) → w .skip ≤ 0 → b ≡ getD row (w .byte) 0 → Seen row w (b / 2 ^ (7 - w .bit) % 2)

@@ -1,4 +1,5 @@
 // A row painted dot by dot, for squares and rows of any size.
+use lay::lay;
 ghost use mathlib.Core.Path.{_≡_};
 ghost use Prim.Native.Nat.{_≤_, _<_};
 ghost use Rattle.rules.specs.Dots.{inkedLine};
@@ -99,7 +100,8 @@ pub fn paint_slowly(part: &mut [u8], row: &[u8], dots: usize, from: usize)
     while j < part.len() {
         let e = ink_of_eight(row, at, dots);
         let next = e.next;
-        part[j] = part[j] | e.ink;
+        let one = [e.ink];
+        lay(&mut part[j..], &one, 0);
         at = next;
         j += 1;
     }

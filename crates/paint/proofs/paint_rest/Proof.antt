@@ -1,55 +1,76 @@
 -- `paint::paint_rest` meets its contract. Assumes nothing.
 use borrow.Author.Needs.{needs}
-use Rattle.paint.proofs.Laying.{ready-slow}
 use Rattle.paint.proofs.Covers.{lines-blank}
+use Rattle.paint.proofs.Alike.{lines-unmarked, lines-used}
+use Rattle.paint.proofs.Squares.{used-length}
 use Rattle.paint.proofs.paint_rest.Statement.{statement}
 use Rattle.paint.proofs.paint_rest.Tie as tie
 
 returns : tie.Need-returns
 returns c = search (lines-blank, needs)
 
-paint-lines-requires : tie.Need-paint-lines-requires
-paint-lines-requires c κs = search (ready-slow, needs)
+used-requires : tie.Need-used-requires
+used-requires c κs = search needs
+
+returns-2 : tie.Need-returns-2
+returns-2 c = lines-unmarked _ _ _ _ _ _ (c .before .used .ensures) (c .if2 .taken) (λ i. c .before .before .before .before .slice-known .given i .fits)
+
+slice-aggregate-lay-lines : tie.Need-slice-aggregate-lay-lines
+slice-aggregate-lay-lines c = search (used-length, needs)
+
+lay-lines-requires : tie.Need-lay-lines-requires
+lay-lines-requires c κs = search needs
 
 same-length : tie.Need-same-length
 same-length c = search needs
 
-returns-2 : tie.Need-returns-2
-returns-2 c = search needs
+returns-3 : tie.Need-returns-3
+returns-3 c = search (lines-used, needs)
 
-reach-requires : tie.Need-reach-requires
-reach-requires c κs = search needs
-
-paint-lines-requires-2 : tie.Need-paint-lines-requires-2
-paint-lines-requires-2 c κs = search (ready-slow, needs)
+slow-lines-requires : tie.Need-slow-lines-requires
+slow-lines-requires c κs = search needs
 
 same-length-2 : tie.Need-same-length-2
 same-length-2 c = search needs
 
-returns-3 : tie.Need-returns-3
-returns-3 c = search needs
+returns-4 : tie.Need-returns-4
+returns-4 c = search needs
 
-paint-inked-requires : tie.Need-paint-inked-requires
-paint-inked-requires c κs = search needs
+slow-lines-requires-2 : tie.Need-slow-lines-requires-2
+slow-lines-requires-2 c κs = search needs
 
 same-length-3 : tie.Need-same-length-3
 same-length-3 c = search needs
 
-returns-4 : tie.Need-returns-4
-returns-4 c = search needs
+returns-5 : tie.Need-returns-5
+returns-5 c = search needs
+
+lay-squares-requires : tie.Need-lay-squares-requires
+lay-squares-requires c κs = search needs
+
+same-length-4 : tie.Need-same-length-4
+same-length-4 c = search needs
+
+returns-6 : tie.Need-returns-6
+returns-6 c = search needs
 
 pub paint-rest-spec : {M : Type 1} → statement M
 paint-rest-spec =
     tie.close
     (tie.spec
     returns
-    paint-lines-requires
-    same-length
+    used-requires
     returns-2
-    reach-requires
-    paint-lines-requires-2
-    same-length-2
+    slice-aggregate-lay-lines
+    lay-lines-requires
+    same-length
     returns-3
-    paint-inked-requires
+    slow-lines-requires
+    same-length-2
+    returns-4
+    slow-lines-requires-2
     same-length-3
-    returns-4)
+    returns-5
+    lay-squares-requires
+    same-length-4
+    returns-6)

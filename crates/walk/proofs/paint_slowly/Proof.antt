@@ -1,38 +1,46 @@
 -- `walk::paint_slowly` meets its contract: after j turns j bytes are painted. Assumes nothing.
-use Prim.Native.Nat.{_-_}
-use native.Mathlib.Omega.{arith}
-use lib.ListN.{length, length-set}
+use Prim.Native.Nat.{ℕ, _-_, _<_}
+use lib.ListN.{length, getD}
 use borrow.Author.Needs.{needs}
-use Rattle.walk.proofs.Lines.{inking-ends, Walking, walking-starts, walking-again}
+use Rattle.walk.proofs.Lines.{inking-ends, Walking, walking-starts, walking-laid}
 use Rattle.walk.proofs.paint_slowly.Statement.{statement}
 use Rattle.walk.proofs.paint_slowly.Tie as tie
 
 abbrev Inv-loop : tie.InvT-loop
-Inv-loop part₀ row dots from at₀ j₀ part at j = Walking row dots from part₀ part at j
+Inv-loop part₀ row dots from at₀ j₀ part at j = Walking row dots from part₀ part at j × ((i : ℕ) → getD part i 0 < 256)
 
 abbrev μ-loop : tie.MeasureT-loop
 μ-loop part₀ row dots from at₀ j₀ part at j = length part - j
 
 loop-holds : tie.Need-loop-holds Inv-loop μ-loop
-loop-holds c = search (walking-starts, needs)
+loop-holds c = (search (walking-starts, needs), λ i. c .before .slice-known .given i .fits)
 
 ink-of-eight-requires : tie.Need-ink-of-eight-requires Inv-loop μ-loop
 ink-of-eight-requires c κs = search needs
 
-slice-read-part : tie.Need-slice-read-part Inv-loop μ-loop
-slice-read-part c = search needs
+sub-lay : tie.Need-sub-lay Inv-loop μ-loop
+sub-lay c = search needs
 
-slice-write-part : tie.Need-slice-write-part Inv-loop μ-loop
-slice-write-part c = search needs
+part-lay-start : tie.Need-part-lay-start Inv-loop μ-loop
+part-lay-start c = search needs
+
+part-lay-end : tie.Need-part-lay-end Inv-loop μ-loop
+part-lay-end c = search needs
+
+slice-aggregate-lay : tie.Need-slice-aggregate-lay Inv-loop μ-loop
+slice-aggregate-lay c = search needs
+
+lay-requires : tie.Need-lay-requires Inv-loop μ-loop
+lay-requires c κs = search needs
 
 add-j : tie.Need-add-j Inv-loop μ-loop
 add-j c = search needs
 
 loop-less : tie.Need-loop-less Inv-loop μ-loop
-loop-less c = simp length-set (omega arith)
+loop-less c = search needs
 
 loop-again : tie.Need-loop-again Inv-loop μ-loop
-loop-again c = search (walking-again, c .before .slice-known2 .given (c .before .before .before .before .before .loop .j) .fits, needs)
+loop-again c = (search (walking-laid, needs), λ i. c .slice-known2 .given i .fits)
 
 same-length : tie.Need-same-length Inv-loop μ-loop
 same-length c = search needs
@@ -48,8 +56,11 @@ paint-slowly-spec =
     μ-loop
     loop-holds
     ink-of-eight-requires
-    slice-read-part
-    slice-write-part
+    sub-lay
+    part-lay-start
+    part-lay-end
+    slice-aggregate-lay
+    lay-requires
     add-j
     loop-less
     loop-again

@@ -1,0 +1,4 @@
+pub mod Inks
+pub mod Lines
+pub mod Windows
+pub mod Laying
