@@ -2,13 +2,13 @@
 -- first byte too.
 use Prim.Native.Nat.{ℕ, suc, _+_, _≤_, _<_}
 use mathlib.Core.Path.{_≡_}
-use mathlib.Core.Bool.{cond}
+use mathlib.Core.Bool.{Bool, cond, _&&_}
 use mathlib.Core.List.{List, [], _∷_}
-use lib.Dec.{eqb}
-use lib.ListN.{length, drop}
+use lib.Dec.{leb, eqb}
+use lib.ListN.{length, drop, replicate}
 use Rattle.rules.specs.declared.Mode.{Mode}
 use Rattle.rules.specs.declared.Mode.the-variants.{Ready, Offset, Copy, Repeat}
-use Rattle.rules.specs.Rows.{control1, control2, control3}
+use Rattle.rules.specs.Rows.{control1, control2, control3, isWhole}
 
 -- what a control byte of a method means, for the methods that have control bytes; a number over 2 acts as 3
 unfoldable pub controlOf : ℕ → ℕ → ℕ → Mode
@@ -26,6 +26,11 @@ asked (Offset n at) s = fulls s + (n + 2)
 asked (Copy n at) s = n + 1
 asked (Repeat n at) s = 1
 
+-- the byte in front n times; nothing where there is none
+unfoldable pub repeated : ℕ → List ℕ → List ℕ
+repeated n [] = []
+repeated n (b ∷ s) = replicate n b
+
 -- the number that a mode holds besides its place: of bytes that follow one, or of places to fill
 unfoldable pub count : Mode → ℕ
 count (Ready at) = 0
@@ -39,6 +44,10 @@ place (Ready at) = at
 place (Offset n at) = at
 place (Copy n at) = at
 place (Repeat n at) = at
+
+-- no byte is missing from place i on, where a control byte is next; past the end one is
+abbrev pub wholeFrom : (ℕ → ℕ → Mode) → List ℕ → ℕ → Bool
+wholeFrom by s i = leb i (length s) && isWhole by (Ready 0) (drop i s)
 
 -- r is the place of the first byte from i on that is not 255, or the end
 pub record Passed (s : List ℕ) (i r : ℕ) : Type 0 where

@@ -1,24 +1,55 @@
-// Rows by methods 0 to 3: the one lent row is changed in place, after a first look over the payload has shown that no byte is missing.
-// Refuses no payload: a damaged one gives a row of zeros, and the answer says so.
+// Rows by methods 0 to 3, in the one lent row. By method 3 it is changed in place, after a first look over the payload has shown that no byte is missing. Methods 1
+// and 2 fill it in one pass: whatever was put into it, a damaged row is zeros. Refuses no payload: a damaged one gives a row of zeros, and the answer says so.
 ghost use mathlib.Core.Path.{_≡_};
 ghost use Prim.Native.Nat.{_≤_, min};
 ghost use lib.ListN.{length};
-ghost use Rattle.rules.specs.Rows.{byControl, decoded};
+ghost use Rattle.rules.specs.Rows.{byControl, decoded, zeroRow};
 ghost use Rattle.controls.specs.Controls.{controlOf};
 ghost use Rattle.rows.specs.Decoding.{Decoded, Made};
 use common::least;
 use controls::look;
+use controls::look_from;
 use elements::change;
-use elements::clear;
-use elements::copy;
+use fills::fill_row;
+use pieces::clear;
+use pieces::clear_from;
+use pieces::copy;
 
-// A row by a method with control bytes: changed if the payload is whole, else zeros.
-fn by_control(method: u8, s: &[u8], row: &mut [u8]) -> bool
+// Method 1: a payload of pairs is whole, whatever they are.
+fn by_pairs(s: &[u8], row: &mut [u8]) -> bool
     requires { ⌜ length (now row) ≤ 600 ⌝ }
-    ensures { λ r. ⌜ Made (byControl (controlOf method) (length (now (row .entry))) (now (row .entry)) (now (s .entry))) r (now (row .exit)) ⌝ }
+    ensures { λ r. ⌜ Made (byControl (controlOf 1) (length (now (row .entry))) (zeroRow (length (now (row .entry)))) (now (s .entry))) r (now (row .exit)) ⌝ }
 {
-    if look(method, s) {
-        change(method, s, row);
+    if look(1, s) {
+        fill_row(1, s, row);
+        true
+    } else {
+        clear(row);
+        false
+    }
+}
+
+// Method 2: the row is filled; what is left of the payload, where the row is full before its end, is looked at.
+fn by_packed(s: &[u8], row: &mut [u8]) -> bool
+    requires { ⌜ length (now row) ≤ 600 ⌝ }
+    ensures { λ r. ⌜ Made (byControl (controlOf 2) (length (now (row .entry))) (zeroRow (length (now (row .entry)))) (now (s .entry))) r (now (row .exit)) ⌝ }
+{
+    let i = fill_row(2, s, row);
+    if look_from(2, s, i) {
+        true
+    } else {
+        clear(row);
+        false
+    }
+}
+
+// Method 3: the seed row is changed if the payload is whole.
+fn by_changes(s: &[u8], row: &mut [u8]) -> bool
+    requires { ⌜ length (now row) ≤ 600 ⌝ }
+    ensures { λ r. ⌜ Made (byControl (controlOf 3) (length (now (row .entry))) (now (row .entry)) (now (s .entry))) r (now (row .exit)) ⌝ }
+{
+    if look(3, s) {
+        change(s, row);
         true
     } else {
         clear(row);
@@ -32,17 +63,17 @@ fn row_by(method: u8, s: &[u8], row: &mut [u8]) -> bool
     ensures { λ r. ⌜ Made (decoded (length (now (row .entry))) method (now (row .entry)) (now (s .entry))) r (now (row .exit)) ⌝ }
 {
     if 2 < method {
-        return by_control(3, s, row);
+        return by_changes(s, row);
     }
-    clear(row);
     if method == 0 {
         copy(row, 0, s, 0, s.len());
+        clear_from(row, s.len());
         return true;
     }
     if method == 1 {
-        return by_control(1, s, row);
+        return by_pairs(s, row);
     }
-    by_control(2, s, row)
+    by_packed(s, row)
 }
 
 // The row is the first w bytes of those lent; the others stay.

@@ -4,8 +4,8 @@ use Rattle.rows.proofs.Rows.{third-row, plain-row, first-row, second-ro
 use Rattle.rows.proofs.row_by.Statement.{statement}
 use Rattle.rows.proofs.row_by.Tie as tie
 
-by-control-requires : tie.Need-by-control-requires
-by-control-requires c κs = search needs
+by-changes-requires : tie.Need-by-changes-requires
+by-changes-requires c κs = search needs
 
 same-length : tie.Need-same-length
 same-length c = search needs
@@ -13,11 +13,11 @@ same-length c = search needs
 returns : tie.Need-returns
 returns c = search (third-row, needs)
 
-clear-requires : tie.Need-clear-requires
-clear-requires c κs = search needs
-
 copy-requires : tie.Need-copy-requires
 copy-requires c κs = search needs
+
+clear-from-requires : tie.Need-clear-from-requires
+clear-from-requires c κs = search needs
 
 same-length-2 : tie.Need-same-length-2
 same-length-2 c = search needs
@@ -25,8 +25,8 @@ same-length-2 c = search needs
 returns-2 : tie.Need-returns-2
 returns-2 c = search (plain-row, needs)
 
-by-control-requires-2 : tie.Need-by-control-requires-2
-by-control-requires-2 c κs = search needs
+by-pairs-requires : tie.Need-by-pairs-requires
+by-pairs-requires c κs = search needs
 
 same-length-3 : tie.Need-same-length-3
 same-length-3 c = search needs
@@ -34,8 +34,8 @@ same-length-3 c = search needs
 returns-3 : tie.Need-returns-3
 returns-3 c = search (first-row, needs)
 
-by-control-requires-3 : tie.Need-by-control-requires-3
-by-control-requires-3 c κs = search needs
+by-packed-requires : tie.Need-by-packed-requires
+by-packed-requires c κs = search needs
 
 same-length-4 : tie.Need-same-length-4
 same-length-4 c = search needs
@@ -47,16 +47,16 @@ pub row-by-spec : {M : Type 1} → statement M
 row-by-spec =
     tie.close
     (tie.spec
-    by-control-requires
+    by-changes-requires
     same-length
     returns
-    clear-requires
     copy-requires
+    clear-from-requires
     same-length-2
     returns-2
-    by-control-requires-2
+    by-pairs-requires
     same-length-3
     returns-3
-    by-control-requires-3
+    by-packed-requires
     same-length-4
     returns-4)

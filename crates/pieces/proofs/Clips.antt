@@ -6,13 +6,14 @@ use Prim.Native.Nat.{ℕ, zero, suc, _+_, _-_, _≤_, _<_, min}
 use native.Mathlib.Omega.{arith}
 use native.Mathlib.Numerals.{add-one}
 use lib.ListN.{length, getD, take, drop, set, replicate, length-set, length-drop, length-replicate, replicate-append-replicate}
-use lib.Seq.{sets, sets-eq, length-take-le, take-suc, getD-drop, drop-length}
+use lib.Seq.{sets, sets-eq, length-take-le, take-suc, take-all, getD-take, getD-drop, getD-set-same, getD-set-other, ext-getD, drop-length}
+use borrow.Author.Count.{below-more}
 use Rattle.common.proofs.Choices.{le-or-lt}
 use Rattle.common.proofs.Stores.{sets-append, sets-out}
 use Rattle.common.proofs.Lists.{take-replicate}
 
 -- no more need be stored than there are bytes, and places to store them
-clip : (d : List ℕ) (at : ℕ) (v : List ℕ) (k : ℕ) → min (length d - at) (length v) ≤ k → sets d at (take k v) ≡ sets d at v
+pub clip : (d : List ℕ) (at : ℕ) (v : List ℕ) (k : ℕ) → min (length d - at) (length v) ≤ k → sets d at (take k v) ≡ sets d at v
 clip d at [] zero h = refl
 clip d at [] (suc k) h = refl
 clip d at (x ∷ v) zero h = sym (sets-out d at (x ∷ v) (omega arith))
@@ -97,3 +98,41 @@ pub cleared : (d r : List ℕ) (b : ℕ) → r ≡ sets d 0 (replicate (length d
 cleared d r b h =
     let e : 0 + length (replicate (length d) b) ≡ length d = simp length-replicate (omega arith) in
     h ∙ sets-eq (replicate (length d) b) d 0 (omega arith) ∙ rw (e, drop-length, append-nil)
+
+-- ---- blocks: w bytes at once
+
+-- k of the w bytes from place i of a text on are in a block
+pub record Taking (w : ℕ) (s : List ℕ) (i : ℕ) (b : List ℕ) (k : ℕ) : Type 0 where
+  pub fit : i + w ≤ length s
+  pub some : k ≤ w
+  pub long : length b ≡ w
+  pub held : (j : ℕ) → j < k → getD b j 0 ≡ getD s (i + j) 0
+
+pub taking-none : (w : ℕ) (s : List ℕ) (i : ℕ) → i + w ≤ length s → Taking w s i (replicate w 0) 0
+taking-none w s i h = record { fit = h; some = omega arith; long = length-replicate w 0; held = λ j l. absurd (omega arith) }
+
+pub taking-more : (w : ℕ) (s : List ℕ) (i : ℕ) (b : List ℕ) (k : ℕ) → Taking w s i b k → k < w → Taking w s i (set b k (getD s (i + k) 0)) (k + 1)
+taking-more w s i b k t h =
+    record {
+      fit = t .fit;
+      some = omega arith;
+      long = length-set b k _ ∙ t .long;
+      held =
+          below-more _ _ (λ j l. rw (getD-set-other b k j _ 0 (λ e. omega arith)) (t .held j l))
+          (rw (getD-set-same b k _ 0 (omega (arith, t .long))));
+    }
+
+pub taking-end : (w : ℕ) (s : List ℕ) (i : ℕ) (b : List ℕ) (k : ℕ) → Taking w s i b k → w ≤ k → b ≡ take w (drop i s)
+taking-end w s i b k t h =
+    ext-getD 0 b (take w (drop i s)) (t .long ∙ sym (length-take-le w (drop i s) (simp length-drop (omega (arith, t .fit)))))
+    (λ j l. let q : j < w = omega (arith, t .long) in t .held j (omega arith) ∙ sym (getD-take w (drop i s) j 0 q ∙ getD-drop i s j 0))
+
+-- a block of w bytes goes into the row: k of them are stored
+pub putting-none : (w : ℕ) (d : List ℕ) (at : ℕ) (b : List ℕ) → at + w ≤ length d → length b ≡ w → Copying d at b 0 w w d 0
+putting-none w d at b h e = copying-none d at b 0 w w _ _ _ refl refl refl (omega arith)
+
+pub putting-more : (w : ℕ) (d : List ℕ) (at : ℕ) (b row : List ℕ) (k : ℕ) → Copying d at b 0 w w row k → k < w → Copying d at b 0 w w (set row (at + k) (getD b k 0)) (k + 1)
+putting-more w d at b row k c h = let z : 0 + k ≡ k = omega arith in rw z at (copying-more d at b 0 w w row k c h)
+
+pub putting-end : (w : ℕ) (d : List ℕ) (at : ℕ) (b row : List ℕ) (k : ℕ) → Copying d at b 0 w w row k → w ≤ k → length b ≡ w → row ≡ sets d at b
+putting-end w d at b row k c h e = copying-end d at b 0 w w row k c h ∙ rw (take-all w b (omega arith))

@@ -1,14 +1,14 @@
--- `rows::by_control` meets its contract: what the first look said chooses between the changed row and zeros. Assumes nothing.
+-- `rows::by_pairs` meets its contract: what the first look said chooses between the filled row and zeros. Assumes nothing.
 use borrow.Author.Needs.{needs}
-use Rattle.rows.proofs.Rows.{whole-row, damaged-row}
-use Rattle.rows.proofs.by_control.Statement.{statement}
-use Rattle.rows.proofs.by_control.Tie as tie
+use Rattle.rows.proofs.Rows.{pairs-filled, damaged-row}
+use Rattle.rows.proofs.by_pairs.Statement.{statement}
+use Rattle.rows.proofs.by_pairs.Tie as tie
 
 look-requires : tie.Need-look-requires
 look-requires c κs = search needs
 
-change-requires : tie.Need-change-requires
-change-requires c κs = search needs
+fill-row-requires : tie.Need-fill-row-requires
+fill-row-requires c κs = search needs
 
 clear-requires : tie.Need-clear-requires
 clear-requires c κs = search needs
@@ -17,7 +17,7 @@ same-length : tie.Need-same-length
 same-length c = search needs
 
 returns : tie.Need-returns
-returns c = search (whole-row, needs)
+returns c = search (pairs-filled, needs)
 
 same-length-2 : tie.Need-same-length-2
 same-length-2 c = search needs
@@ -25,12 +25,12 @@ same-length-2 c = search needs
 returns-2 : tie.Need-returns-2
 returns-2 c = search (damaged-row, needs)
 
-pub by-control-spec : {M : Type 1} → statement M
-by-control-spec =
+pub by-pairs-spec : {M : Type 1} → statement M
+by-pairs-spec =
     tie.close
     (tie.spec
     look-requires
-    change-requires
+    fill-row-requires
     clear-requires
     same-length
     returns
