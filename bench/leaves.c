@@ -10,7 +10,7 @@
 
 enum { WIDE = 600, HIGH = 6800, PAGE = WIDE * HIGH, ROUNDS = 100, PARTS = 8 };
 
-static uint8_t proved_page[PAGE], plain_page[PAGE], payload[1 << 16], row[WIDE], seed[WIDE];
+static uint8_t proved_page[PAGE], plain_page[PAGE], payload[1 << 16], row[WIDE], blank[WIDE], seed[WIDE];
 static size_t payload_n;
 static unsigned state = 1;
 
@@ -30,12 +30,29 @@ static void fill_random(uint8_t *at, size_t n) {
     for (size_t i = 0; i < n; i++) at[i] = (uint8_t)next_random();
 }
 
-/* kind 0: long runs, 1: literals, 2: mixed */
-static void make_payload(int method, int kind, size_t wide) {
+enum kind { LONG_RUNS, LITERALS, MIXED, SHORT_LITERALS };
+
+static size_t run_length(enum kind kind) {
+    switch (kind) {
+    case LONG_RUNS: return 100;
+    case MIXED: return 1 + next_random() % 12;
+    default: return 1;
+    }
+}
+
+static size_t literal_length(enum kind kind) {
+    switch (kind) {
+    case LITERALS: return 100;
+    case SHORT_LITERALS: return 1 + next_random() % 16;
+    default: return 1 + next_random() % 12;
+    }
+}
+
+static void make_payload(int method, enum kind kind, size_t wide) {
     size_t at = 0;
     payload_n = 0;
     while (at < wide) {
-        size_t left = wide - at, run = kind == 0 ? 100 : kind == 1 ? 1 : 1 + next_random() % 12, literal = kind == 1 ? 100 : 1 + next_random() % 12;
+        size_t left = wide - at, run = run_length(kind), literal = literal_length(kind);
         if (run > left) run = left;
         if (literal > left) literal = left;
         if (method == 0) {
@@ -46,7 +63,7 @@ static void make_payload(int method, int kind, size_t wide) {
             add(next_random());
             at += run;
         } else if (method == 2) {
-            if (run >= 2 && (kind == 0 || next_random() % 2)) {
+            if (run >= 2 && (kind == LONG_RUNS || next_random() % 2)) {
                 add(257 - (unsigned)run);
                 add(next_random());
                 at += run;
@@ -56,7 +73,7 @@ static void make_payload(int method, int kind, size_t wide) {
                 at += literal;
             }
         } else { /* method 3: runs are untouched bytes, literals replace */
-            size_t skip = kind == 1 ? 0 : kind == 0 ? 60 : next_random() % 40, count = kind == 1 ? 8 : 1 + next_random() % 8;
+            size_t skip = kind == LITERALS ? 0 : kind == LONG_RUNS ? 60 : next_random() % 40, count = kind == LITERALS ? 8 : 1 + next_random() % 8;
             if (skip >= left) skip = left - 1;
             if (count > left - skip) count = left - skip;
             add((unsigned)(count - 1) * 32 + (unsigned)(skip < 31 ? skip : 31));
@@ -82,7 +99,7 @@ static void line_of(const char *name, struct times whole, struct times part, int
     exit(1);
 }
 
-static struct times decode_times(int method, int kind, size_t wide, int *same) {
+static struct times decode_times(int method, enum kind kind, size_t wide, int *same) {
     enum { TURNS = 4000 };
     static uint8_t a[WIDE], b[WIDE];
     struct times least = {0, 0};
@@ -104,28 +121,28 @@ static struct times decode_times(int method, int kind, size_t wide, int *same) {
     return least;
 }
 
-static void rows_of(int method, int kind, const char *name) {
+static void rows_of(int method, enum kind kind, const char *name) {
     int same = 1;
     struct times whole = decode_times(method, kind, WIDE, &same), part = decode_times(method, kind, WIDE / PARTS, &same);
     line_of(name, whole, part, same);
 }
 
-static struct times paint_times(size_t dots, size_t from, size_t wide) {
+static struct times paint_times(const uint8_t *bytes, size_t dots, size_t from, size_t wide) {
     enum { LINES = 400 };
     struct times least = {0, 0};
     for (int r = 0; r < ROUNDS; r++) {
         double t = now();
-        for (size_t y = 0; y < LINES; y++) rov_paint(proved_page, wide * HIGH, wide, row, wide, dots, from, y * dots);
+        for (size_t y = 0; y < LINES; y++) rov_paint(proved_page, wide * HIGH, wide, bytes, wide, dots, from, y * dots);
         lower(&least.proved, now() - t);
         t = now();
-        for (size_t y = 0; y < LINES; y++) plain_paint(plain_page, wide * HIGH, wide, row, wide, dots, from, y * dots);
+        for (size_t y = 0; y < LINES; y++) plain_paint(plain_page, wide * HIGH, wide, bytes, wide, dots, from, y * dots);
         lower(&least.plain, now() - t);
     }
     return least;
 }
 
-static void paint_of(size_t dots, size_t from, const char *name) {
-    struct times whole = paint_times(dots, from, WIDE), part = paint_times(dots, from, WIDE / PARTS);
+static void paint_of(const uint8_t *bytes, size_t dots, size_t from, const char *name) {
+    struct times whole = paint_times(bytes, dots, from, WIDE), part = paint_times(bytes, dots, from, WIDE / PARTS);
     line_of(name, whole, part, memcmp(proved_page, plain_page, PAGE) == 0);
 }
 
@@ -175,24 +192,26 @@ int main(void) {
     fill_random(seed, WIDE);
     fill_random(row, WIDE);
     puts("| Workload | Ratio | Growth, proved | Growth, plain C |\n|---|---|---|---|");
-    rows_of(0, 2, "row, method 0");
-    rows_of(1, 0, "row, method 1, long runs");
-    rows_of(1, 1, "row, method 1, runs of 1");
-    rows_of(1, 2, "row, method 1, mixed");
-    rows_of(2, 0, "row, method 2, long runs");
-    rows_of(2, 1, "row, method 2, literals");
-    rows_of(2, 2, "row, method 2, mixed");
-    rows_of(3, 0, "row, method 3, far apart");
-    rows_of(3, 1, "row, method 3, all replaced");
-    rows_of(3, 2, "row, method 3, mixed");
-    paint_of(1, 0, "paint, 300 dots an inch");
-    paint_of(1, 5, "paint, 300, shifted");
-    paint_of(2, 0, "paint, 150 dots an inch");
-    paint_of(2, 5, "paint, 150, shifted");
-    paint_of(3, 0, "paint, 100 dots an inch");
-    paint_of(3, 5, "paint, 100, shifted");
-    paint_of(4, 0, "paint, 75 dots an inch");
-    paint_of(4, 5, "paint, 75, shifted");
+    rows_of(0, MIXED, "row, method 0");
+    rows_of(1, LONG_RUNS, "row, method 1, long runs");
+    rows_of(1, LITERALS, "row, method 1, runs of 1");
+    rows_of(1, MIXED, "row, method 1, mixed");
+    rows_of(2, LONG_RUNS, "row, method 2, long runs");
+    rows_of(2, LITERALS, "row, method 2, literals");
+    rows_of(2, SHORT_LITERALS, "row, method 2, short literals");
+    rows_of(2, MIXED, "row, method 2, mixed");
+    rows_of(3, LONG_RUNS, "row, method 3, far apart");
+    rows_of(3, LITERALS, "row, method 3, all replaced");
+    rows_of(3, MIXED, "row, method 3, mixed");
+    paint_of(row, 1, 0, "paint, 300 dots an inch");
+    paint_of(row, 1, 5, "paint, 300, shifted");
+    paint_of(row, 2, 0, "paint, 150 dots an inch");
+    paint_of(row, 2, 5, "paint, 150, shifted");
+    paint_of(row, 3, 0, "paint, 100 dots an inch");
+    paint_of(row, 3, 5, "paint, 100, shifted");
+    paint_of(row, 4, 0, "paint, 75 dots an inch");
+    paint_of(row, 4, 5, "paint, 75, shifted");
+    paint_of(blank, 1, 0, "paint, a blank row");
     count_of();
     clear_of();
     return 0;

@@ -468,10 +468,18 @@ static void put_counted(struct out *o, uint32_t key, const uint8_t *payload, siz
     put_all(o, payload, n);
 }
 
-static void put_row(struct out *o, uint32_t key, const uint8_t *row, size_t n) {
+/* How many bytes a row has up to the last that is not zero; the white behind it by words. */
+static size_t without_white(const uint8_t *row, size_t n) {
+    uint64_t last;
+    for (; n >= sizeof last; n -= sizeof last) {
+        memcpy(&last, row + n - sizeof last, sizeof last);
+        if (last) break;
+    }
     while (n > 0 && !row[n - 1]) n--;
-    put_counted(o, key, row, n);
+    return n;
 }
+
+static void put_row(struct out *o, uint32_t key, const uint8_t *row, size_t n) { put_counted(o, key, row, without_white(row, n)); }
 
 static void put_valued(struct out *o, uint32_t key, struct value v) {
     put_start(o, key);
