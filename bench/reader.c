@@ -86,9 +86,13 @@ static bool state_sound(const struct state *s, const uint8_t *seed, size_t W, si
 static void move_x(struct reader *r, int64_t x) { r->st.x = x < 0 ? 0 : least((uint64_t)x, r->lw); }
 static void move_y(struct reader *r, int64_t y) { r->st.y = y < 0 ? 0 : least((uint64_t)y, r->lh); }
 
-static void type(struct reader *r) {
+/* Text: each byte goes right by a column, as far as the margin; all but spaces use the page. */
+static void type(struct reader *r, const uint8_t *text, size_t n) {
     struct state *s = &r->st;
-    s->x = least((uint64_t)s->x + s->hmi, s->x <= s->right ? s->right : r->lw);
+    uint8_t marks = 0;
+    for (size_t i = 0; i < n; i++) marks |= text[i] ^ ' ';
+    s->x = least(s->x + (uint64_t)n * s->hmi, s->x <= s->right ? s->right : r->lw);
+    if (marks) s->used = 1;
 }
 
 static void tab(struct reader *r) {
@@ -277,10 +281,7 @@ static uint32_t rows_down(struct reader *r, struct value v) {
 
 static uint32_t transparent(struct reader *r, struct value v, const uint8_t *payload, size_t count) {
     if (whole_negative(v)) return 4;
-    for (size_t i = 0; i < count; i++) {
-        type(r);
-        if (payload[i] != ' ') r->st.used = 1;
-    }
+    type(r, payload, count);
     return 0;
 }
 
@@ -399,21 +400,26 @@ static inline uint32_t do_command(struct reader *r, struct sent *c) {
     return finding ? finding : command(r, c);
 }
 
-static inline void do_byte(struct reader *r) {
-    uint8_t byte = r->stream[r->at++];
-    if (byte < 32 || byte == 127) {
-        control(r, byte);
-    } else {
-        type(r);
-        if (byte != ' ') r->st.used = 1;
-    }
+static inline bool is_text(uint8_t byte) { return byte >= 32 && byte != 127; }
+
+/* The text up to the next code or command, but at most so many bytes; each is an item. Gives how many. */
+static inline size_t do_text(struct reader *r, size_t most) {
+    const uint8_t *text = r->stream + r->at;
+    size_t n = 0;
+    if (most > r->n - r->at) most = r->n - r->at;
+    while (n < most && is_text(text[n])) n++;
+    type(r, text, n);
+    r->at += n;
+    return n;
 }
 
-static inline uint32_t item(struct reader *r) {
+/* One item, or some of text, at most so many. Gives how many. */
+static inline size_t do_items(struct reader *r, size_t most, uint32_t *finding) {
     struct sent c;
-    if (at_command(r)) return do_command(r, &c);
-    do_byte(r);
-    return 0;
+    if (at_command(r)) *finding = do_command(r, &c);
+    else if (is_text(r->stream[r->at])) return do_text(r, most);
+    else control(r, r->stream[r->at++]);
+    return 1;
 }
 
 /* ---- the plain stream */
@@ -507,9 +513,9 @@ static void put_command(struct out *o, const struct reader *r, const struct sent
     }
 }
 
-static bool is_ignored(uint8_t byte) { return byte == 127 || (byte < 32 && (byte < '\b' || byte > '\r' || byte == '\v')); }
+static bool is_ignored(uint8_t code) { return code < '\b' || code > '\r' || code == '\v'; }
 
-static void translate_item(struct reader *r, struct out *o) {
+static void translate_items(struct reader *r, struct out *o) {
     struct sent c;
     uint32_t finding;
     uint8_t byte;
@@ -519,7 +525,13 @@ static void translate_item(struct reader *r, struct out *o) {
         return;
     }
     byte = r->stream[r->at];
-    do_byte(r);
+    if (is_text(byte)) {
+        const uint8_t *text = r->stream + r->at;
+        put_all(o, text, do_text(r, SIZE_MAX));
+        return;
+    }
+    r->at++;
+    control(r, byte);
     if (!is_ignored(byte)) put(o, byte);
 }
 
@@ -529,7 +541,7 @@ static size_t translated(size_t W, size_t H, const uint8_t *stream, size_t n, ui
     struct reader r = {.seed = seed, .stream = stream, .n = n, .wide = W / 8, .high = H, .lw = (uint32_t)W * DOT, .lh = (uint32_t)H * DOT};
     struct out o = {room, most, 0};
     make_afresh(&r);
-    while (has_item(&r) && o.at <= most) translate_item(&r, &o);
+    while (has_item(&r) && o.at <= most) translate_items(&r, &o);
     return o.at;
 }
 
@@ -587,8 +599,7 @@ uint32_t plain_run(size_t W, size_t H, uint8_t *page, size_t page_n, const uint8
     if (allowance && has_item(&r) && !r.st.used) memset(page, 0, r.wide * H);
     while (count < allowance && has_item(&r) && !finding && !r.ended) {
         size_t began = r.at;
-        finding = item(&r);
-        count++;
+        count += do_items(&r, allowance - count, &finding);
         if (finding) *found = began;
     }
     memcpy(state, &r.st, sizeof r.st);
