@@ -35,9 +35,9 @@ or-blank row at k all v z i h l =
     let o = or-zeros all (getD row (at + k) 0) z in
     ⊎-elim (λ (q : at + k ≤ i). let d : i ≡ at + k = omega arith in rw d (o .1)) (v (o .0) i h) (le-or-lt (at + k) i)
 
--- the last sixteen bytes are zero: they are not used
-pub used-less : (row : List ℕ) (e : ℕ) (r : Bool) → Used row e → 16 ≤ e → Blank row (e - 16) r → not r ≡ false → Used row (e - 16)
-used-less row e r v h b z =
+-- the last w bytes are zero: they are not used
+pub used-less : (w : ℕ) (row : List ℕ) (e : ℕ) (r : Bool) → Used row e → w ≤ e → Blank w row (e - w) r → not r ≡ false → Used row (e - w)
+used-less w row e r v h b z =
     record {
       inside = omega (arith, v .inside);
       rest = λ i l. ⊎-elim (v .rest i) (λ (k : i < e). b .zeros (not-false r z) i l (omega arith)) (le-or-lt e i);

@@ -11,9 +11,9 @@ pub record Used (row : List ℕ) (r : ℕ) : Type 0 where
   pub inside : r ≤ length row
   pub rest : (i : ℕ) → r ≤ i → getD row i 0 ≡ 0
 
--- the answer r is yes only if the sixteen bytes from a place on are zero
-pub record Blank (row : List ℕ) (at : ℕ) (r : Bool) : Type 0 where
-  pub zeros : r ≡ true → (i : ℕ) → at ≤ i → i < at + 16 → getD row i 0 ≡ 0
+-- the answer r is yes only if the w bytes from a place on are zero
+pub record Blank (w : ℕ) (row : List ℕ) (at : ℕ) (r : Bool) : Type 0 where
+  pub zeros : r ≡ true → (i : ℕ) → at ≤ i → i < at + w → getD row i 0 ≡ 0
 
 -- byte `phase` of the ink of the byte b: each bit as so many dots
 unfoldable pub spreadOf : ℕ → ℕ → ℕ → ℕ
