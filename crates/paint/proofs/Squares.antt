@@ -2,7 +2,7 @@
 use mathlib.Core.Path.{_≡_, sym, ap, _∙_}
 use mathlib.Core.List.{List, _++_}
 use mathlib.Core.Logic.{⊎-elim}
-use Prim.Native.Nat.{ℕ, zero, suc, _+_, _*_, _/_, _%_, _≤_, _<_, min}
+use Prim.Native.Nat.{ℕ, zero, suc, _+_, _-_, _*_, _/_, _%_, _≤_, _<_, min}
 use native.Mathlib.Omega.{arith}
 use lib.ListN.{length, take, replicate, length-replicate, length-append, List·getD-eq-default}
 use lib.Seq.{take-at, length-take-le}
@@ -23,19 +23,15 @@ by-dots P a b c (suc (suc (suc zero))) h l = b
 by-dots P a b c (suc (suc (suc (suc zero)))) h l = c
 by-dots P a b c (suc (suc (suc (suc (suc n))))) h l = absurd (omega arith)
 
--- the squares of a page row of at most 600 bytes are at most 604
-pub square-room : (d w e n : ℕ) → 2 ≤ d → d ≤ 4 → w ≤ 600 → n ≡ min e (w / d + 1) → d * n ≤ 604
+-- the squares of a page row of at most 600 bytes are at most 600, which two, three and four divide
+pub square-room : (d w e n : ℕ) → 2 ≤ d → d ≤ 4 → w ≤ 600 → n ≡ min e (((w + d) - 1) / d) → d * n ≤ 600
 square-room d w e n h l k q =
-    by-dots (λ d. n ≡ min e (w / d + 1) → d * n ≤ 604) (λ q. omega arith) (λ q. omega arith) (λ q. omega arith) d h l q
-
--- a quotient is no more than what it comes of
-pub quotient-small : (d w : ℕ) → 2 ≤ d → d ≤ 4 → w / d ≤ w
-quotient-small d w h l = by-dots (λ d. w / d ≤ w) (omega arith) (omega arith) (omega arith) d h l
+    by-dots (λ d. n ≡ min e (((w + d) - 1) / d) → d * n ≤ 600) (λ q. omega arith) (λ q. omega arith) (λ q. omega arith) d h l q
 
 -- behind the squares a page row has no more of the row's dots
-past-square : (d w e n k : ℕ) → 2 ≤ d → d ≤ 4 → n ≡ min e (w / d + 1) → d * n ≤ k / 8 → k < 8 * w → e ≤ k / d / 8
+past-square : (d w e n k : ℕ) → 2 ≤ d → d ≤ 4 → n ≡ min e (((w + d) - 1) / d) → d * n ≤ k / 8 → k < 8 * w → e ≤ k / d / 8
 past-square d w e n k h l =
-    by-dots (λ d. n ≡ min e (w / d + 1) → d * n ≤ k / 8 → k < 8 * w → e ≤ k / d / 8) (λ q r s. omega arith) (λ q r s. omega arith) (λ q r s. omega arith) d h l
+    by-dots (λ d. n ≡ min e (((w + d) - 1) / d) → d * n ≤ k / 8 → k < 8 * w → e ≤ k / d / 8) (λ q r s. omega arith) (λ q r s. omega arith) (λ q r s. omega arith) d h l
 
 -- the first n of k zeros
 pub zeros-length : (n k : ℕ) → n ≤ k → n ≡ length {A = ℕ} (take n (replicate k 0))
@@ -59,7 +55,7 @@ module _ (row : List ℕ) (d n size m : ℕ) (list behind : List ℕ) (e : m ≡
   squares-length = rw squares-first (e ∙ sym (k .same))
 
   -- laid, they are the row's ink
-  pub lines-squared : (w u from : ℕ) (page after : List ℕ) → 2 ≤ d → d ≤ 4 → Used row u → n ≡ min u (w / d + 1) → m ≡ d * n
+  pub lines-squared : (w u from : ℕ) (page after : List ℕ) → 2 ≤ d → d ≤ 4 → Used row u → n ≡ min u (((w + d) - 1) / d) → m ≡ d * n
       → after ≡ inkedLines w (take m (list ++ behind)) 1 from d page → after ≡ inkedLines w row d from d page
   unfolding dot
   lines-squared w u from page after h l v q r g =

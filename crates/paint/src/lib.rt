@@ -42,8 +42,8 @@ fn lay_squares(page: &mut [u8], wide: usize, row: &[u8], dots: usize, from: usiz
     requires { ⌜ (2 ≤ dots) × (dots ≤ 4) × (wide ≤ 600) × Used (now row) e ⌝ }
     ensures { λ _. ⌜ now (page .exit) ≡ inkedLines wide (now (row .entry)) dots from dots (now (page .entry)) ⌝ }
 {
-    let mut ink = [0u8; 604];
-    let n = common::least(e, wide / dots + 1);
+    let mut ink = [0u8; 600];
+    let n = common::least(e, (wide + dots - 1) / dots);
     let m = dots * n;
     squares(&mut ink[..m], row, n, dots);
     lay_lines(page, wide, &ink[..m], dots, from);
