@@ -99,7 +99,9 @@ static void line_of(const char *name, struct times whole, struct times part, int
     exit(1);
 }
 
-static struct times decode_times(int method, enum kind kind, size_t wide, int *same) {
+typedef int (*decoder)(uint8_t, const uint8_t *, size_t, uint8_t *, size_t);
+
+static struct times decode_times(decoder decode, int method, enum kind kind, size_t wide, int *same) {
     enum { TURNS = 4000 };
     static uint8_t a[WIDE], b[WIDE];
     struct times least = {0, 0};
@@ -114,18 +116,20 @@ static struct times decode_times(int method, enum kind kind, size_t wide, int *s
         for (int i = 0; i < TURNS; i++) x = rov_decode((uint8_t)method, payload, payload_n, a, wide);
         lower(&least.proved, now() - t);
         t = now();
-        for (int i = 0; i < TURNS; i++) y = plain_decode((uint8_t)method, payload, payload_n, b, wide);
+        for (int i = 0; i < TURNS; i++) y = decode((uint8_t)method, payload, payload_n, b, wide);
         lower(&least.plain, now() - t);
         *same = *same && (int)x == y && x && memcmp(a, b, WIDE) == 0;
     }
     return least;
 }
 
-static void rows_of(int method, enum kind kind, const char *name) {
+static void rows_by(decoder decode, int method, enum kind kind, const char *name) {
     int same = 1;
-    struct times whole = decode_times(method, kind, WIDE, &same), part = decode_times(method, kind, WIDE / PARTS, &same);
+    struct times whole = decode_times(decode, method, kind, WIDE, &same), part = decode_times(decode, method, kind, WIDE / PARTS, &same);
     line_of(name, whole, part, same);
 }
+
+static void rows_of(int method, enum kind kind, const char *name) { rows_by(plain_decode, method, kind, name); }
 
 static struct times paint_times(const uint8_t *bytes, size_t dots, size_t from, size_t wide) {
     enum { LINES = 400 };
@@ -203,6 +207,9 @@ int main(void) {
     rows_of(3, LONG_RUNS, "row, method 3, far apart");
     rows_of(3, LITERALS, "row, method 3, all replaced");
     rows_of(3, MIXED, "row, method 3, mixed");
+    rows_by(plain_decode_looking, 3, LONG_RUNS, "row, method 3, far apart, plain C looks first, too");
+    rows_by(plain_decode_looking, 3, LITERALS, "row, method 3, all replaced, plain C looks first, too");
+    rows_by(plain_decode_looking, 3, MIXED, "row, method 3, mixed, plain C looks first, too");
     paint_of(row, 1, 0, "paint, 300 dots an inch");
     paint_of(row, 1, 5, "paint, 300, shifted");
     paint_of(row, 2, 0, "paint, 150 dots an inch");

@@ -99,6 +99,20 @@ static int delta(const uint8_t *p, size_t n, uint8_t *row, size_t wide) {
     return 1;
 }
 
+/* Whether no byte is missing: the place of each control byte comes of the one before, so this cannot go faster than they are read one by one. */
+static int delta_whole(const uint8_t *p, size_t n) {
+    size_t i = 0;
+    while (i < n) {
+        uint8_t c = p[i++];
+        if ((c & 31) == 31) {
+            while (i < n && p[i] == 255) i++;
+            i++;
+        }
+        i += (size_t)(c >> 5) + 1;
+    }
+    return i == n;
+}
+
 static int as_it_is(const uint8_t *p, size_t n, uint8_t *row, size_t wide) {
     memcpy(row, p, least(n, wide));
     put_zeros(row, wide, n);
@@ -115,6 +129,12 @@ int plain_decode(uint8_t method, const uint8_t *payload, size_t n, uint8_t *row,
     }
     if (!whole) memset(row, 0, wide);
     return whole;
+}
+
+int plain_decode_looking(uint8_t method, const uint8_t *payload, size_t n, uint8_t *row, size_t wide) {
+    if (method != 3 || delta_whole(payload, n)) return plain_decode(method, payload, n, row, wide);
+    memset(row, 0, wide);
+    return 0;
 }
 
 /* ---- squares: the bits of a byte as d dots each, the first dot in the first byte's highest bit */
