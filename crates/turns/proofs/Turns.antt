@@ -43,6 +43,8 @@ use Rattle.deeds.specs.declared.Deed.{Deed}
 use Rattle.deeds.specs.Acted.{Acted, actedOf, acted, pageAfter, ActedOn}
 use Rattle.deeds.specs.Deeds.{wholeOf, DeedOn}
 use Rattle.deeds.proofs.Acts.{text-done}
+use Rattle.rules.specs.Measure.{blank}
+use Rattle.turns.proofs.Blank.{Undrawn, page-none, blank-ended, blank-goes}
 use Rattle.turns.specs.Turns.{Stepped, textNext, shownBy, ItemDone, stopOf, RunsOn}
 use Rattle.theorems.specs.Facts.{Fits, Shaped, SoundState}
 use Rattle.theorems.proofs.Streams.{step-shaped}
@@ -151,19 +153,16 @@ quiet-goes y f n t j k z =
     clean NotNow e = absurd (false≢true e)
     clean DamagedRow e = absurd (false≢true e)
 
--- no page was handed over: the page is the one that is being drawn
-page-none : (h : List (List ℕ)) (q : List ℕ) → isNil h ≡ true → pageOf h q ≡ q
-page-none [] q e = refl
-page-none (p ∷ h) q e = absurd (false≢true e)
-
--- a run is under way: `done` items are done; what is left to do leads to the outcome; the state is sound
-pub record Going (g : Measure) (s : List ℕ) (allow : ℕ) (o : Outcome) (t : State) (at done : ℕ) (p : List ℕ) : Type 0 where
+-- a run is under way: `done` items are done; what is left to do leads to the outcome; the state is sound; nothing is drawn yet where the page is
+-- unused, which was `first`
+pub record Going (g : Measure) (s : List ℕ) (allow : ℕ) (o : Outcome) (t : State) (at done : ℕ) (first p : List ℕ) : Type 0 where
   pub left : runFrom g (allow - done) done at t p (drop at s) ≡ o
   pub inside : at ≤ length s
   pub shaped : Shaped (t .core)
   pub sound : SoundState g t
+  pub undrawn : Undrawn g first (t .core .used) p
 
-module _ (g : Measure) (fit : Fits g) (s : List ℕ) (allow : ℕ) (o : Outcome) (t : State) (at done : ℕ) (p : List ℕ) (h : Going g s allow o t at done p) where
+module _ (g : Measure) (fit : Fits g) (s : List ℕ) (allow : ℕ) (o : Outcome) (t : State) (at done : ℕ) {first : List ℕ} (p : List ℕ) (h : Going g s allow o t at done first p) where
   -- the allowance is used up
   pub turn-full : (f : Finding) (n : ℕ) (ended : Bool) → Quiet f n ended → allow ≤ done → RunsOn o (ranOf t at f n ended done) p
   unfolding runFrom
@@ -211,8 +210,12 @@ module _ (g : Measure) (fit : Fits g) (s : List ℕ) (allow : ℕ) (o : Outcome)
           let z : stop ≡ o = rw q at turned in
           record { given = rw (← z) (i ∙ rw (d .state, d .next, d .finding, d .ended)); lent = d .page ∙ ap (λ (v : Outcome). v .page) z }
 
+      -- what it leaves of a page that was blank, where it ended the page and that was unused
+      pub turn-blank : (x : Bool) → x ≡ (r .ended && not (t .core .used)) → x ≡ true → first ≡ blank g → after ≡ blank g
+      turn-blank = blank-ended d first (h .undrawn)
+
       -- one behind which it goes on
-      pub turn-goes : (y : Bool) → y ≡ (isClean (r .finding) && not (r .ended)) → y ≡ true → Going g s allow o (r .state) (r .next) (done + 1) after
+      pub turn-goes : (y : Bool) → y ≡ (isClean (r .finding) && not (r .ended)) → y ≡ true → Going g s allow o (r .state) (r .next) (done + 1) first after
       turn-goes y j k =
           let w = shownBy g (step g t (drop at s)) t p in
           let q : (isClean (step g t (drop at s) .done .finding) && isNil (w .handed)) ≡ true = same-test (w .handed) (d .ended) ∙ sym j ∙ k in
@@ -224,6 +227,7 @@ module _ (g : Measure) (fit : Fits g) (s : List ℕ) (allow : ℕ) (o : Outcome)
             inside = d .inside;
             shaped = rw (d .state) (step-shaped g (fit .wide) t (drop at s) (h .shaped) u);
             sound = rw (d .state) (step-sound g fit t (drop at s) u (h .shaped) (h .sound));
+            undrawn = blank-goes d first (h .undrawn) n;
           }
 
 -- what a run gives that stops behind an item
@@ -269,18 +273,18 @@ text-item g c d m p s at l h e =
     let act : ActedOn g (mean g (read Closed (drop at s) .item) c m) c p (actedOf d m Nothing false) p = rw r (text-done g b c d m e p) in
     done-there g (stateOf c m Closed) p s at (actedOf d m Nothing false) p (record { item = found.Text b; sequence = Closed; next = at + 1 }) there (omega arith) act
 
-module _ (g : Measure) (fit : Fits g) (s : List ℕ) (allow : ℕ) (o : Outcome) (c : Core) (m : Beside) (q : Sequence) (at done : ℕ) (p : List ℕ) (h : Going g s allow o (stateOf c m q) at done p) where
+module _ (g : Measure) (fit : Fits g) (s : List ℕ) (allow : ℕ) (o : Outcome) (c : Core) (m : Beside) (q : Sequence) (at done : ℕ) {first : List ℕ} (p : List ℕ) (h : Going g s allow o (stateOf c m q) at done first p) where
   -- a space or a text byte: the run goes on behind it
   pub turn-text : (x : Bool) (to : Spot) (u : Bool) → done < allow → x ≡ textNext s at q → x ≡ true → to ≡ typedSpot g (c .at) (c .layout) → u ≡ (c .used || not (eqb (getD s at 0) 32))
-      → Going g s allow o (stateOf (withUsed u (withAt to c)) m q) (at + 1) (done + 1) p
+      → Going g s allow o (stateOf (withUsed u (withAt to c)) m q) (at + 1) (done + 1) first p
   unfolding typed
   turn-text x to u l e f k j =
       let z = text-told s at q x e f in
       let d : withUsed u (withAt to c) ≡ typed g (getD s at 0) c = rw (k, j) in
       go q (z .closed) h (over-not s at q (z .inside)) (text-item g c (withUsed u (withAt to c)) m p s at (z .inside) (z .text) d)
     where
-      go : (r : Sequence) → r ≡ Closed → Going g s allow o (stateOf c m r) at done p → false ≡ over (stateOf c m r) (drop at s)
-          → ItemDone g (stateOf c m Closed) p s at (steppedOf (stateOf (withUsed u (withAt to c)) m Closed) (at + 1) Nothing false) p → Going g s allow o (stateOf (withUsed u (withAt to c)) m r) (at + 1) (done + 1) p
+      go : (r : Sequence) → r ≡ Closed → Going g s allow o (stateOf c m r) at done first p → false ≡ over (stateOf c m r) (drop at s)
+          → ItemDone g (stateOf c m Closed) p s at (steppedOf (stateOf (withUsed u (withAt to c)) m Closed) (at + 1) Nothing false) p → Going g s allow o (stateOf (withUsed u (withAt to c)) m r) (at + 1) (done + 1) first p
       go Closed e h v i = turn-goes g fit s allow o (stateOf c m Closed) at done p h l false v refl (steppedOf (stateOf (withUsed u (withAt to c)) m Closed) (at + 1) Nothing false) p i true refl refl
       go (Open first group) e h v i = absurd (false≢true (ap isClosed e))
 
@@ -312,10 +316,10 @@ goes-quiet f t e h = rw (e, h)
 
 -- a run that has not begun
 pub going-first : (g : Measure) (s : List ℕ) (allow place : ℕ) (t : State) (p : List ℕ) → place ≤ length s → Shaped (t .core) → SoundState g t
-    → Going g s allow (runFrom g allow 0 place t p (drop place s)) t place 0 p
-going-first g s allow place t p i h k = record { left = rw (sub-zero allow); inside = i; shaped = h; sound = k }
+    → Going g s allow (runFrom g allow 0 place t p (drop place s)) t place 0 p p
+going-first g s allow place t p i h k = record { left = rw (sub-zero allow); inside = i; shaped = h; sound = k; undrawn = λ e u. e }
 
 -- nor has one whose state was taken apart
 pub going-apart : (g : Measure) (s : List ℕ) (allow place : ℕ) (t : State) (n : Pen) (p : List ℕ) → n ≡ penOf (t .core) → place ≤ length s → Shaped (t .core) → SoundState g t
-    → Going g s allow (runFrom g allow 0 place (stateOf (coreOf n (t .core .stack) (t .core .seed)) (t .beside) (t .sequence)) p (drop place s)) (stateOf (coreOf n (t .core .stack) (t .core .seed)) (t .beside) (t .sequence)) place 0 p
+    → Going g s allow (runFrom g allow 0 place (stateOf (coreOf n (t .core .stack) (t .core .seed)) (t .beside) (t .sequence)) p (drop place s)) (stateOf (coreOf n (t .core .stack) (t .core .seed)) (t .beside) (t .sequence)) place 0 p p
 going-apart g s allow place t n p e i h k = rw (pen-back n (t .core) e) (going-first g s allow place t p i h k)

@@ -2,7 +2,7 @@
 use mathlib.Core.Path.{_≡_}
 use mathlib.Core.Bool.{Bool, not, _&&_}
 use mathlib.Core.List.{List, []}
-use Prim.Native.Nat.{ℕ, _+_, _≤_}
+use Prim.Native.Nat.{ℕ, _+_, _≤_, _<_}
 use lib.Dec.{ltb}
 use lib.ListN.{length, drop, getD}
 use Rattle.common.specs.Lists.{isNil}
@@ -11,6 +11,7 @@ use Rattle.rules.specs.declared.Sequence.{Sequence}
 use Rattle.rules.specs.declared.Finding.{Finding}
 use Rattle.rules.specs.declared.State.{State}
 use Rattle.rules.specs.declared.Ran.{Ran}
+use Rattle.rules.specs.Measure.{blank}
 use Rattle.rules.specs.Items.{isText}
 use Rattle.rules.specs.Acts.{World, world, showAll, Step, step, isClosed}
 use Rattle.rules.specs.declared.Verdict.the-variants.{Carried}
@@ -64,3 +65,9 @@ stopOf r begins done = record {
 pub record RunsOn (o : Outcome) (r : Ran) (after : List ℕ) : Type 0 where
   pub given : r ≡ o .ran
   pub lent : after ≡ o .page
+
+-- how many bytes of the page are known to be zero before a run on the page p, and behind it: no more than before, and where there are any, a page
+-- that was blank is blank
+pub record StillBlank (g : Measure) (p : List ℕ) (zeros : ℕ) (p′ : List ℕ) (zeros′ : ℕ) : Type 0 where
+  pub few : zeros′ ≤ zeros
+  pub still : 0 < zeros′ → p ≡ blank g → p′ ≡ blank g

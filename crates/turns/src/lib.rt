@@ -1,7 +1,7 @@
 // The items of a run, one after the other, on the page's own bytes: what `run` does once a call is taken and the page is ready.
 // Nothing is refused. A run stops early only after a finding, a page end or the stream's end.
 ghost use mathlib.Core.Path.{_≡_};
-ghost use mathlib.Core.Bool.{not, _&&_};
+ghost use mathlib.Core.Bool.{cond, not, _&&_};
 ghost use Prim.Native.Nat.{_≤_};
 ghost use lib.ListN.{length, drop};
 ghost use Rattle.common.specs.Lists.{isNil};
@@ -10,7 +10,7 @@ ghost use Rattle.rules.specs.Items.{isText};
 ghost use Rattle.rules.specs.Acts.{isClosed};
 ghost use Rattle.rules.specs.Run.{placeOf, runFrom};
 ghost use Rattle.theorems.specs.Facts.{Fits, Shaped, SoundState};
-ghost use Rattle.turns.specs.Turns.{textNext, RunsOn};
+ghost use Rattle.turns.specs.Turns.{textNext, RunsOn, StillBlank};
 use deeds::Stacking;
 use items::do_item;
 use numbered::is_clean;
@@ -75,8 +75,23 @@ fn place_of(f: Finding, at: usize) -> usize
     if is_clean(f) { 0 } else { at }
 }
 
+// Whether an item ended a page that was unused when it came: a page end hands the page over as it is, so nothing was drawn on it.
+fn ended_unused(ended: bool, used: bool) -> bool
+    ensures { λ r. ⌜ r ≡ (ended && not used) ⌝ }
+{
+    if ended { !used } else { false }
+}
+
+// The bytes that are known to be zero behind a run: those known before it, if the page that it ended was unused, else none.
+fn zeros_behind(unused: bool, zeros: usize) -> usize
+    ensures { λ r. ⌜ r ≡ cond unused zeros 0 ⌝ }
+{
+    if unused { zeros } else { 0 }
+}
+
 // The items of a run. Text is done here, byte by byte: only the cursor moves, and the page is used.
 // The core is large: its pen, its stack and its seed row are kept apart, and a state is made of them only at the end.
+// `zeros` is how many bytes of the page are known to be zero, 0 where none are: it stays as it is only where an unused page was ended.
 pub fn run_items(
     page: &mut [u8],
     g: Measure,
@@ -84,9 +99,10 @@ pub fn run_items(
     t: State,
     place: usize,
     allowance: usize,
+    zeros: &mut usize,
 ) -> Ran
     requires { ⌜ (place ≤ length (now s)) × Fits g × Shaped (t .core) × SoundState g t ⌝ }
-    ensures { λ r. ⌜ RunsOn (runFrom g allowance 0 place t (now (page .entry)) (drop place (now (s .entry)))) r (now (page .exit)) ⌝ }
+    ensures { λ r. ⌜ RunsOn (runFrom g allowance 0 place t (now (page .entry)) (drop place (now (s .entry)))) r (now (page .exit)) × StillBlank g (now (page .entry)) (now (zeros .entry)) (now (page .exit)) (now (zeros .exit)) ⌝ }
 {
     let core = t.core;
     let mut pen = pen_of(core);
@@ -99,6 +115,7 @@ pub fn run_items(
     let mut finding = Finding::Nothing;
     let mut found: usize = 0;
     let mut ended = false;
+    let mut unused = false;
     while done < allowance {
         if text_next(s, at, sequence) {
             let from = pen.at;
@@ -120,6 +137,7 @@ pub fn run_items(
         let d = do_item(page, g, s, item, pen, beside, &mut seed);
         let from = pen.at;
         let depth = pen.depth;
+        let used = pen.used;
         let stacking = d.stacking;
         pen = d.pen;
         beside = d.beside;
@@ -148,9 +166,11 @@ pub fn run_items(
         ended = d.ended;
         if !goes_on(finding, ended) {
             found = place_of(finding, begins);
+            unused = ended_unused(ended, used);
             break;
         }
     }
+    *zeros = zeros_behind(unused, *zeros);
     let core = core_of(pen, stack, seed);
     let state = State {
         core,
