@@ -6,6 +6,7 @@ ghost use Prim.Native.Nat.{_≤_};
 ghost use lib.ListN.{length};
 ghost use Rattle.common.specs.Bits.{onesAll};
 ghost use Rattle.common.specs.Stores.{Wrote};
+ghost use Rattle.dots.specs.Zeros.{FirstZero};
 ghost use Rattle.rules.specs.Acts.{world};
 ghost use Rattle.rules.specs.Report.{line, PAGE, END, lastLines};
 use line::write_field;
@@ -14,22 +15,29 @@ use line::write_line;
 use line::write_word;
 use rules::Core;
 
-// PAGE, page number, dots set on it.
-fn write_page(number: usize, page: &[u8], room: &mut [u8], at: usize) -> usize
-    requires { ⌜ length (now page) ≤ 4294967296 ⌝ }
+// PAGE, page number, dots set on it. The first `zeros` bytes of the page are known to be zero and not counted.
+fn write_page(number: usize, page: &[u8], zeros: usize, room: &mut [u8], at: usize) -> usize
+    requires { ⌜ (length (now page) ≤ 4294967296) × FirstZero zeros (now page) ⌝ }
     ensures { λ r. ⌜ Wrote (now (room .entry)) at (line PAGE (number ∷ onesAll (now (page .entry)) ∷ []) []) (now (room .exit)) r ⌝ }
 {
-    let dots = dots::count(page);
+    let dots = dots::count_behind(page, zeros);
     write_line(b"PAGE", number, dots, room, at)
 }
 
 // The line of a page, if it is to be written.
-pub fn write_page_if(wanted: bool, number: usize, page: &[u8], room: &mut [u8], at: usize) -> usize
-    requires { ⌜ length (now page) ≤ 4294967296 ⌝ }
+pub fn write_page_if(
+    wanted: bool,
+    number: usize,
+    page: &[u8],
+    zeros: usize,
+    room: &mut [u8],
+    at: usize,
+) -> usize
+    requires { ⌜ (length (now page) ≤ 4294967296) × FirstZero zeros (now page) ⌝ }
     ensures { λ r. ⌜ Wrote (now (room .entry)) at (cond wanted (line PAGE (number ∷ onesAll (now (page .entry)) ∷ []) []) []) (now (room .exit)) r ⌝ }
 {
     if wanted {
-        return write_page(number, page, room, at);
+        return write_page(number, page, zeros, room, at);
     }
     common::least(at, room.len())
 }
@@ -56,6 +64,6 @@ pub fn write_last(
     requires { ⌜ length (now page) ≤ 4294967296 ⌝ }
     ensures { λ r. ⌜ Wrote (now (room .entry)) at (lastLines number (world core (now (page .entry)) []) findings) (now (room .exit)) r ⌝ }
 {
-    let end = write_page_if(core.used, number, page, room, at);
+    let end = write_page_if(core.used, number, page, 0, room, at);
     write_end(core, findings, room, end)
 }

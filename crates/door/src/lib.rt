@@ -108,7 +108,8 @@ pub extern "C" fn rov_run(
     ensures { λ n. ⌜ Answered w h (now (page .entry)) (now (stream .entry)) (now (state .entry)) allowance (now (place .entry)) n (now (page .exit)) (now (state .exit)) (now (place .exit)) (now (done .exit)) (now (found .exit)) (now (ended .exit)) ⌝ }
 {
     let t = read_state(state);
-    let r = run::run(page, w, h, stream, t, *place, allowance);
+    let mut zeros: usize = 0;
+    let r = run::run_and_zeros(page, w, h, stream, t, *place, allowance, &mut zeros);
     *place = r.place;
     *done = r.done;
     *found = r.found;

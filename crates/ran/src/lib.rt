@@ -6,6 +6,7 @@ ghost use mathlib.Core.List.{[]};
 ghost use Prim.Native.Nat.{_≤_};
 ghost use lib.ListN.{length};
 ghost use Rattle.common.specs.Stores.{Wrote};
+ghost use Rattle.dots.specs.Zeros.{FirstZero};
 ghost use Rattle.printing.specs.Left.{counted, printed};
 use rules::Finding;
 use rules::Ran;
@@ -33,12 +34,19 @@ pub fn count_of(f: Finding) -> usize
     }
 }
 
-// What a run found: the line of its finding, and the line of the page that it ended.
-pub fn write_ran(o: Ran, number: usize, page: &[u8], room: &mut [u8], at: usize) -> usize
-    requires { ⌜ length (now page) ≤ 4294967296 ⌝ }
+// What a run found: the line of its finding, and the line of the page that it ended, whose first `zeros` bytes are known to be zero.
+pub fn write_ran(
+    o: Ran,
+    number: usize,
+    page: &[u8],
+    zeros: usize,
+    room: &mut [u8],
+    at: usize,
+) -> usize
+    requires { ⌜ (length (now page) ≤ 4294967296) × FirstZero zeros (now page) ⌝ }
     ensures { λ r. ⌜ Wrote (now (room .entry)) at (printed number o (now (page .entry)) []) (now (room .exit)) r ⌝ }
 {
     let f = o.finding;
     let behind = lines::write_fault(o.found, f, room, at);
-    closing::write_page_if(o.ended, number, page, room, behind)
+    closing::write_page_if(o.ended, number, page, zeros, room, behind)
 }

@@ -53,7 +53,7 @@ fn write_stream(s: &[u8], page: &mut [u8], room: &mut [u8], at: usize) -> usize
             return closing::write_last(number, core, page, findings, room, next);
         }
         let f = o.finding;
-        next = write_ran(o, number, page, room, next);
+        next = write_ran(o, number, page, 0, room, next);
         number += one_if(o.ended);
         findings += count_of(f);
         place = o.place;

@@ -6,6 +6,7 @@ ghost use mathlib.Core.Bool.{cond, _||_};
 ghost use Prim.Native.Nat.{ℕ, _≤_};
 ghost use lib.Dec.{eqb};
 ghost use lib.ListN.{length, replicate};
+ghost use Rattle.dots.specs.Zeros.{FirstZero};
 ghost use Rattle.rules.specs.declared.Refusal.{Refusal};
 ghost use Rattle.rules.specs.Measure.{pageBytes};
 ghost use Rattle.rules.specs.Run.{run, refused};
@@ -25,32 +26,41 @@ use state::measure_of;
 use turns::is_over;
 use turns::run_items;
 
-// With the page unused and an item to do, a run zeroes the page first.
-fn ready_page(page: &mut [u8], used: bool, allowance: usize, over: bool)
-    ensures { λ _. ⌜ now (page .exit) ≡ cond (used || eqb allowance 0 || over) (now (page .entry)) (replicate (length (now (page .entry))) 0) ⌝ }
+// With the page unused and an item to do, a run zeroes the page first. Given is how many bytes of it are then known to be zero.
+fn ready_page(page: &mut [u8], used: bool, allowance: usize, over: bool) -> usize
+    ensures { λ r. ⌜ (now (page .exit) ≡ cond (used || eqb allowance 0 || over) (now (page .entry)) (replicate (length (now (page .entry))) 0)) × (r ≡ cond (used || eqb allowance 0 || over) 0 (length (now (page .entry)))) ⌝ }
 {
     if used {
-        return;
+        return 0;
     }
     if allowance == 0 {
-        return;
+        return 0;
     }
     if over {
-        return;
+        return 0;
     }
     let n = page.len();
     clear(page, n);
+    n
 }
 
-// A run on the page's own bytes.
-fn run_page(page: &mut [u8], g: Measure, s: &[u8], t: State, place: usize, allowance: usize) -> Ran
+// A run on the page's own bytes; `zeros` is how many of them are known to be zero behind it.
+fn run_page(
+    page: &mut [u8],
+    g: Measure,
+    s: &[u8],
+    t: State,
+    place: usize,
+    allowance: usize,
+    zeros: &mut usize,
+) -> Ran
     requires { ⌜ (place ≤ length (now s)) × Fits g × Shaped (t .core) × SoundState g t × (length (now page) ≡ pageBytes g) ⌝ }
-    ensures { λ r. ⌜ RunsOn (run g allowance t place (now (page .entry)) (now (s .entry))) r (now (page .exit)) ⌝ }
+    ensures { λ r. ⌜ RunsOn (run g allowance t place (now (page .entry)) (now (s .entry))) r (now (page .exit)) × FirstZero (now (zeros .exit)) (now (page .exit)) ⌝ }
 {
     let sequence = t.sequence;
     let over = is_over(s, place, sequence);
-    ready_page(page, t.core.used, allowance, over);
-    run_items(page, g, s, t, place, allowance)
+    *zeros = ready_page(page, t.core.used, allowance, over);
+    run_items(page, g, s, t, place, allowance, zeros)
 }
 
 // A refused call: state and place come back as given, and no item is done.
@@ -68,8 +78,9 @@ fn refuse(why: Refusal, t: State, place: usize) -> Ran
     }
 }
 
-// At most `allowance` items of the stream s, from a place of it on, on a page of w by h dots that is lent. Refusals 10 to 14 are checked in that order.
-pub fn run(
+// A run, which also tells how many bytes of the page are known to be zero behind it: all of the page's own where it ended a page that was unused,
+// else none. Who counts the dots of pages need not count those of a blank one.
+pub fn run_and_zeros(
     page: &mut [u8],
     w: usize,
     h: usize,
@@ -77,9 +88,11 @@ pub fn run(
     t: State,
     place: usize,
     allowance: usize,
+    zeros: &mut usize,
 ) -> Ran
-    ensures { λ r. ⌜ RunPromise w h (now (page .entry)) (now (s .entry)) t place allowance r (now (page .exit)) ⌝ }
+    ensures { λ r. ⌜ RunPromise w h (now (page .entry)) (now (s .entry)) t place allowance r (now (page .exit)) × FirstZero (now (zeros .exit)) (now (page .exit)) ⌝ }
 {
+    *zeros = 0;
     if !allowed(w, h) {
         return refuse(Refusal::PageMeasure, t, place);
     }
@@ -97,5 +110,21 @@ pub fn run(
     if s.len() < place {
         return refuse(Refusal::StartPlace, t, place);
     }
-    run_page(&mut page[0..n], g, s, t, place, allowance)
+    run_page(&mut page[0..n], g, s, t, place, allowance, zeros)
+}
+
+// At most `allowance` items of the stream s, from a place of it on, on a page of w by h dots that is lent. Refusals 10 to 14 are checked in that order.
+pub fn run(
+    page: &mut [u8],
+    w: usize,
+    h: usize,
+    s: &[u8],
+    t: State,
+    place: usize,
+    allowance: usize,
+) -> Ran
+    ensures { λ r. ⌜ RunPromise w h (now (page .entry)) (now (s .entry)) t place allowance r (now (page .exit)) ⌝ }
+{
+    let mut zeros: usize = 0;
+    run_and_zeros(page, w, h, s, t, place, allowance, &mut zeros)
 }

@@ -4,6 +4,7 @@ ghost use mathlib.Core.Path.{_≡_};
 ghost use Prim.Native.Nat.{_≤_};
 ghost use lib.ListN.{length};
 ghost use Rattle.common.specs.Stores.{Wrote};
+ghost use Rattle.dots.specs.Zeros.{FirstZero};
 ghost use Rattle.sheets.specs.Steps.{Stepped, isDrawn, stepLines};
 use closing::write_last;
 use ran::count_of;
@@ -37,9 +38,16 @@ fn is_drawn(o: Ran) -> bool
     o.ended
 }
 
-// The lines of a run, or the last ones where nothing was left to do.
-fn write_lines(o: Ran, number: usize, findings: usize, page: &[u8], room: &mut [u8]) -> usize
-    requires { ⌜ length (now page) ≤ 4294967296 ⌝ }
+// The lines of a run, or the last ones where nothing was left to do. The first `zeros` bytes of the page are known to be zero.
+fn write_lines(
+    o: Ran,
+    number: usize,
+    findings: usize,
+    page: &[u8],
+    zeros: usize,
+    room: &mut [u8],
+) -> usize
+    requires { ⌜ (length (now page) ≤ 4294967296) × FirstZero zeros (now page) ⌝ }
     ensures { λ r. ⌜ Wrote (now (room .entry)) 0 (stepLines number findings o (now (page .entry))) (now (room .exit)) r ⌝ }
 {
     if o.done == 0 {
@@ -47,7 +55,7 @@ fn write_lines(o: Ran, number: usize, findings: usize, page: &[u8], room: &mut [
         let core = t.core;
         return write_last(number, core, page, findings, room, 0);
     }
-    write_ran(o, number, page, room, 0)
+    write_ran(o, number, page, zeros, room, 0)
 }
 
 // One step of the job s: a run from the place on, on the page that is lent, and its lines at the front of the room. A page of at most
@@ -66,8 +74,9 @@ pub fn next(
     requires { ⌜ (length (now page) ≤ 4294967296) × (number ≤ 4294967296) × (findings ≤ 4294967296) ⌝ }
     ensures { λ r. ⌜ Stepped w h (now (page .entry)) (now (s .entry)) t place number findings (now (room .entry)) r (now (page .exit)) (now (room .exit)) ⌝ }
 {
-    let o = run::run(page, w, h, s, t, place, ALLOWANCE);
-    let end = write_lines(o, number, findings, page, room);
+    let mut zeros: usize = 0;
+    let o = run::run_and_zeros(page, w, h, s, t, place, ALLOWANCE, &mut zeros);
+    let end = write_lines(o, number, findings, page, zeros, room);
     let drawn = is_drawn(o);
     let next_number = number + one_if(o.ended);
     let f = o.finding;

@@ -1,5 +1,5 @@
 -- `run::run_page` meets its contract. Assumes nothing.
-use Rattle.run.proofs.Ready.{run-ready}
+use Rattle.run.proofs.Ready.{run-ready, known-ready}
 use borrow.Author.Needs.{needs}
 use Rattle.run.proofs.run_page.Statement.{statement}
 use Rattle.run.proofs.run_page.Tie as tie
@@ -17,7 +17,7 @@ same-length : tie.Need-same-length
 same-length c = search needs
 
 returns : tie.Need-returns
-returns c = search (run-ready, needs)
+returns c = search (run-ready, known-ready, needs)
 
 pub run-page-spec : {M : Type 1} → statement M
 run-page-spec =
