@@ -4,8 +4,8 @@ use Rattle.closing.proofs.write_page.Statement.{statement}
 use Rattle.closing.proofs.write_page.Tie as tie
 use Rattle.closing.proofs.Closing.{wrote-page}
 
-count-requires : tie.Need-count-requires
-count-requires c κs = search needs
+count-behind-requires : tie.Need-count-behind-requires
+count-behind-requires c κs = search needs
 
 slice-aggregate-write-line : tie.Need-slice-aggregate-write-line
 slice-aggregate-write-line c = search needs
@@ -22,4 +22,4 @@ returns c = search (wrote-page, needs)
 pub write-page-spec : {M : Type 1} → statement M
 write-page-spec =
     tie.close
-    (tie.spec count-requires slice-aggregate-write-line write-line-requires same-length returns)
+    (tie.spec count-behind-requires slice-aggregate-write-line write-line-requires same-length returns)

@@ -7,8 +7,8 @@ use Rattle.door.proofs.rov_run.Tie as tie
 read-state-requires : tie.Need-read-state-requires
 read-state-requires c κs = search needs
 
-run-requires : tie.Need-run-requires
-run-requires c κs = search needs
+run-and-zeros-requires : tie.Need-run-and-zeros-requires
+run-and-zeros-requires c κs = search needs
 
 flag-of-requires : tie.Need-flag-of-requires
 flag-of-requires c κs = search needs
@@ -30,7 +30,7 @@ rov-run-spec =
     tie.close
     (tie.spec
     read-state-requires
-    run-requires
+    run-and-zeros-requires
     flag-of-requires
     give-back-requires
     same-length
