@@ -52,7 +52,7 @@ fn write_end(core: Core, findings: usize, room: &mut [u8], at: usize) -> usize
     write_last_two(core.depth, findings, room, behind_y)
 }
 
-// The last lines: the page that is left, if it is used, and END.
+// The last lines: the page that is left, if it is used, and END. Of a used page no byte is known to be zero.
 pub fn write_last(
     number: usize,
     core: Core,

@@ -91,7 +91,8 @@ fn flag_of(t: bool) -> usize
     if t { 1 } else { 0 }
 }
 
-// At most `allowance` items of the stream, from *place on.
+// At most `allowance` items of the stream, from *place on. The zeros that a run knows of are not told: by way of `run::run`, which drops them too, the
+// state would be copied once more.
 #[no_mangle]
 pub extern "C" fn rov_run(
     w: usize,

@@ -34,7 +34,7 @@ fn first_state() -> State
     fresh::afresh(state::measure_of(WIDTH, HEIGHT))
 }
 
-// The lines behind SIZE: run after run, until nothing is left to do.
+// The lines behind SIZE: run after run, until nothing is left to do. Every page is counted, as if none of its bytes were known to be zero.
 fn write_stream(s: &[u8], page: &mut [u8], room: &mut [u8], at: usize) -> usize
     requires { ⌜ length (now s) ≤ 65536 ⌝ }
     requires { ⌜ length (now page) ≡ 64000 ⌝ }

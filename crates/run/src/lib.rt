@@ -78,8 +78,9 @@ fn refuse(why: Refusal, t: State, place: usize) -> Ran
     }
 }
 
-// A run, which also tells how many bytes of the page are known to be zero behind it: all of the page's own where it ended a page that was unused,
-// else none. Who counts the dots of pages need not count those of a blank one.
+// At most `allowance` items of the stream s, from a place of it on, on a page of w by h dots that is lent. Refusals 10 to 14 are checked in that order.
+// `zeros` is how many bytes of the page are known to be zero behind it: all of the page's own where it ended a page that was unused, else none. Who
+// counts the dots of pages need not count those of a blank one.
 pub fn run_and_zeros(
     page: &mut [u8],
     w: usize,
@@ -113,7 +114,7 @@ pub fn run_and_zeros(
     run_page(&mut page[0..n], g, s, t, place, allowance, zeros)
 }
 
-// At most `allowance` items of the stream s, from a place of it on, on a page of w by h dots that is lent. Refusals 10 to 14 are checked in that order.
+// The same, and nothing told of zeros.
 pub fn run(
     page: &mut [u8],
     w: usize,
