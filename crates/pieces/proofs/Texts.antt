@@ -32,7 +32,7 @@ behind-text l i [] j h = refl
 behind-text l i (a ∷ v) j h = behind-text (set l i a) (suc i) v j (omega arith) ∙ getD-set-other l i j a 0 (λ e. omega arith)
 
 -- a run has its byte everywhere
-run-at : (n b j : ℕ) → j < n → getD (replicate n b) j 0 ≡ b
+pub run-at : (n b j : ℕ) → j < n → getD (replicate n b) j 0 ≡ b
 run-at zero b j h = absurd (not-suc-le-zero h)
 run-at (suc n) b zero h = refl
 run-at (suc n) b (suc j) h = run-at n b j (le-of-suc-le-suc h)

@@ -1,13 +1,15 @@
 -- A row up to its last nonzero byte, found from its end. Assumes nothing.
 use mathlib.Core.Path.{_≡_, refl, sym, ap, _∙_}
 use mathlib.Core.List.{List, [], _∷_, _++_}
-use Prim.Native.Nat.{ℕ, suc, _-_, _≤_, _<_}
+use Prim.Native.Nat.{ℕ, suc, _+_, _-_, _≤_, _<_}
 use native.Mathlib.Omega.{arith}
-use lib.ListN.{length, take, replicate, getD}
-use lib.Seq.{take-all, take-at, take-suc, length-take-le}
+use lib.ListN.{length, take, drop, replicate, getD, length-drop, length-replicate, take-append-drop}
+use lib.Seq.{take-at, take-suc, length-take-le, getD-drop, ext-getD}
 use borrow.Author.Tests.{ne-eqb}
 use Rattle.common.specs.Lists.{keep, trim}
 use Rattle.common.proofs.Lists.{trim-whole, trim-append}
+use Rattle.ink.specs.Ink.{Used}
+use Rattle.pieces.proofs.Texts.{run-at}
 
 -- what is kept of a row is its front
 pub trim-take : (l : List ℕ) → take (length (trim l)) l ≡ trim l
@@ -25,8 +27,16 @@ pub record Trims (l : List ℕ) (n : ℕ) : Type 0 where
   pub inside : n ≤ length l
   pub same : trim (take n l) ≡ trim l
 
-pub trims-first : (l : List ℕ) (n : ℕ) → n ≡ length l → Trims l n
-trims-first l n e = record { inside = omega arith; same = ap trim (take-all n l (omega arith)) }
+-- it begins where the row is blank from
+pub trims-used : (l : List ℕ) (n : ℕ) → Used l n → Trims l n
+trims-used l n u =
+    let i = u .inside in
+    let k : length (drop n l) ≡ length l - n = length-drop n l in
+    let z : drop n l ≡ replicate (length l - n) 0 =
+    ext-getD 0 (drop n l) (replicate (length l - n) 0) (k ∙ sym (length-replicate (length l - n) 0))
+    (λ j h. getD-drop n l j 0 ∙ u .rest (n + j) (omega arith) ∙ sym (run-at (length l - n) 0 j (omega arith))) in
+    let s : l ≡ take n l ++ replicate (length l - n) 0 = sym (take-append-drop n l) ∙ ap (λ q. take n l ++ q) z in
+    record { inside = i; same = sym (ap trim s ∙ trim-append (take n l) (length l - n)) }
 
 module _ (l : List ℕ) (n : ℕ) (h : Trims l n) where
   -- the front, and the byte before place n

@@ -14,6 +14,7 @@ ghost use Rattle.plainitem.specs.Plain.{PutsShort, plainCommand, plainIt
 use heads::head_length;
 use heads::write_print_head;
 use heads::write_row_head;
+use ink::used;
 use numbered::is_clean;
 use pieces::copy;
 use plainbytes::write_bytes;
@@ -74,7 +75,7 @@ fn write_print(v: Value, payload: &[u8], room: &mut [u8], at: usize) -> usize
 fn trimmed(row: &[u8]) -> usize
     ensures { λ r. ⌜ (r ≡ length (trim (now (row .entry)))) × (r ≤ length (now (row .entry))) ⌝ }
 {
-    let mut n = row.len();
+    let mut n = used(row);
     while 0 < n {
         if row[n - 1] != 0 {
             return n;

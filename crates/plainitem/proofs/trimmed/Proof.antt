@@ -1,5 +1,5 @@
 -- `plainitem::trimmed` meets its contract. Assumes nothing.
-use Rattle.plainitem.proofs.Trimming.{Trims, trims-first, trims-more, trims-found, trims-none}
+use Rattle.plainitem.proofs.Trimming.{Trims, trims-used, trims-more, trims-found, trims-none}
 use borrow.Author.Needs.{needs}
 use Rattle.plainitem.proofs.trimmed.Statement.{statement}
 use Rattle.plainitem.proofs.trimmed.Tie as tie
@@ -10,8 +10,11 @@ Inv-loop row n₀ n = Trims row n
 abbrev μ-loop : tie.MeasureT-loop
 μ-loop row n₀ n = n
 
+used-requires : tie.Need-used-requires Inv-loop μ-loop
+used-requires c κs = search needs
+
 loop-holds : tie.Need-loop-holds Inv-loop μ-loop
-loop-holds c = search (trims-first, needs)
+loop-holds c = search (trims-used, needs)
 
 sub-if1 : tie.Need-sub-if1 Inv-loop μ-loop
 sub-if1 c = search needs
@@ -40,6 +43,7 @@ trimmed-spec =
     (tie.spec
     Inv-loop
     μ-loop
+    used-requires
     loop-holds
     sub-if1
     shared-slice-read-if1
