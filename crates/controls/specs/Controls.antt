@@ -54,11 +54,10 @@ pub record Passed (s : List ℕ) (i r : ℕ) : Type 0 where
   pub is : r ≡ i + fulls (drop i s)
   pub inside : r ≤ length s
 
--- a mode is what a control byte gives at a place; it holds a small number and a place near that one
-pub record Means (want : Mode) (at : ℕ) (r : Mode) : Type 0 where
+-- a mode is what a control byte gives, and holds a small number
+pub record Means (want r : Mode) : Type 0 where
   pub is : r ≡ want
   pub small : count r < 257
-  pub near : place r < at + 32
 
 -- r is the place behind what a mode asks for from i on
 pub record Behind (m : Mode) (s : List ℕ) (i r : ℕ) : Type 0 where

@@ -38,7 +38,7 @@ repeated-length n s i h = rw (cut s i h) (length-replicate n (getD s i 0))
 
 module _ (method : ℕ) (s : List ℕ) (i at : ℕ) (row row′ : List ℕ) (h : i < length s) where
   -- a control byte that asks for bytes to copy
-  copy-on : (n i′ at′ : ℕ) → Means (controlOf method (getD s i 0) at) at (Copy n at) → Put row row′ at (take (n + 1) (drop (i + 1) s)) (i + 1) (n + 1) (n + 1) i′ at′
+  copy-on : (n i′ at′ : ℕ) → Means (controlOf method (getD s i 0) at) (Copy n at) → Put row row′ at (take (n + 1) (drop (i + 1) s)) (i + 1) (n + 1) (n + 1) i′ at′
       → Onward method s i at row row′ i′ at′
   copy-on n i′ at′ m p =
       let o = p .from in
@@ -56,7 +56,7 @@ module _ (method : ℕ) (s : List ℕ) (i at : ℕ) (row row′ : List ℕ) (h :
       }
 
   -- one that asks for a byte to repeat
-  repeat-on : (n i′ at′ : ℕ) → Means (controlOf method (getD s i 0) at) at (Repeat n at) → Put row row′ at (repeated n (drop (i + 1) s)) (i + 1) 1 n i′ at′
+  repeat-on : (n i′ at′ : ℕ) → Means (controlOf method (getD s i 0) at) (Repeat n at) → Put row row′ at (repeated n (drop (i + 1) s)) (i + 1) 1 n i′ at′
       → Onward method s i at row row′ i′ at′
   repeat-on n i′ at′ m p =
       let o = p .from in

@@ -11,7 +11,7 @@ use lib.Dec.{T, eqb, eqb→eq}
 use lib.ListN.{length, getD, set, length-set, List·getD-eq-default}
 use lib.Seq.{getD-set-same, getD-set-other}
 use borrow.Author.Count.{below-more}
-use borrow.Author.Tests.{not-false}
+use borrow.Author.Tests.{eqb-true, not-false}
 use Rattle.common.specs.Bits.{bit, dot, byteOf}
 use Rattle.common.proofs.Bits.{dot-at, dot-lt, byteOf-cong, bit-byteOf}
 use Rattle.common.proofs.Choices.{le-or-lt}
@@ -28,12 +28,27 @@ used-all row = record { inside = omega arith; rest = λ i h. List·getD-eq-defau
 or-zeros : (a b : ℕ) → bitOr a b ≡ 0 → (a ≡ 0) × (b ≡ 0)
 or-zeros a b h = (omega (arith, or-add-and a b, and-le-r a b), omega (arith, or-add-and a b, and-le-l a b))
 
--- one byte more is or-ed
-pub or-blank : (row : List ℕ) (at k all : ℕ) → (all ≡ 0 → (i : ℕ) → at ≤ i → i < at + k → getD row i 0 ≡ 0)
-    → bitOr all (getD row (at + k) 0) ≡ 0 → (i : ℕ) → at ≤ i → i < at + (k + 1) → getD row i 0 ≡ 0
-or-blank row at k all v z i h l =
-    let o = or-zeros all (getD row (at + k) 0) z in
-    ⊎-elim (λ (q : at + k ≤ i). let d : i ≡ at + k = omega arith in rw d (o .1)) (v (o .0) i h) (le-or-lt (at + k) i)
+-- k of w bytes are or-ed: if what came of it is zero, each of them is
+pub record Oring (w : ℕ) (row : List ℕ) (at all k : ℕ) : Type 0 where
+  pub room : at + w ≤ length row
+  pub some : k ≤ w
+  pub zeros : all ≡ 0 → (i : ℕ) → at ≤ i → i < at + k → getD row i 0 ≡ 0
+
+pub oring-none : (w : ℕ) (row : List ℕ) (at : ℕ) → at + w ≤ length row → Oring w row at 0 0
+oring-none w row at h = record { room = h; some = omega arith; zeros = λ z i l k. absurd (omega arith) }
+
+pub oring-more : (w : ℕ) (row : List ℕ) (at all k : ℕ) → Oring w row at all k → k < w → Oring w row at (bitOr all (getD row (at + k) 0)) (k + 1)
+oring-more w row at all k v h =
+    record {
+      room = v .room;
+      some = omega arith;
+      zeros = λ z i l q.
+          let o = or-zeros all (getD row (at + k) 0) z in
+          ⊎-elim (λ (p : at + k ≤ i). let d : i ≡ at + k = omega arith in rw d (o .1)) (v .zeros (o .0) i l) (le-or-lt (at + k) i);
+    }
+
+pub oring-end : (w : ℕ) (row : List ℕ) (at all k : ℕ) → Oring w row at all k → w ≤ k → Blank w row at (eqb all 0)
+oring-end w row at all k v h = record { zeros = λ t i l q. v .zeros (eqb-true all 0 t) i l (omega arith) }
 
 -- the last w bytes are zero: they are not used
 pub used-less : (w : ℕ) (row : List ℕ) (e : ℕ) (r : Bool) → Used row e → w ≤ e → Blank w row (e - w) r → not r ≡ false → Used row (e - w)

@@ -6,7 +6,7 @@ use Prim.Native.Nat.{ℕ, zero, suc, _+_, _-_, _/_, _%_, _≤_, _<_, min}
 use native.Mathlib.Omega.{arith}
 use lib.Bits.{bitOr, or-zero-r}
 use lib.ListN.{length, getD, take, drop, set, length-set, length-drop, drop-of-length-le, take-append-drop}
-use lib.Seq.{take-all, drop-set-lt, getD-drop}
+use lib.Seq.{take-all, set-split, drop-set-lt, getD-drop}
 use Rattle.common.proofs.Choices.{le-or-lt}
 use Rattle.common.proofs.Places.{cut}
 use Rattle.common.proofs.Parts.{put-back}
@@ -109,11 +109,6 @@ one-small : (k : ℕ) → k < 256 → (i : ℕ) → getD (k ∷ []) i 0 < 256
 one-small k h zero = h
 one-small k h (suc i) = omega arith
 
--- a byte stored, and what is before and behind it
-store-cut : (l : List ℕ) (j v : ℕ) → j < length l → set l j v ≡ take j l ++ (v ∷ drop (j + 1) l)
-store-cut l j v h =
-    sym (take-append-drop (j + 1) (set l j v)) ∙ ap (λ q. take (j + 1) (set l j v) ++ q) (drop-set-lt (j + 1) l j v (omega arith)) ∙ stored l j v (drop (j + 1) l) h
-
 -- a page row, lent from byte j on to be painted with one byte from there on, has that byte or-ed in
 pub laid-one : (part after : List ℕ) (j k : ℕ) → j < length part → k < 256 → ((i : ℕ) → getD part i 0 < 256)
     → after ≡ inkedLine (k ∷ []) 1 0 0 (take (length part - j) (drop j part)) → put-back part j (length part - j) after ≡ set part j (bitOr (getD part j 0) k)
@@ -123,4 +118,5 @@ laid-one part after j k h l s e =
     laid-from (k ∷ []) 1 0 0 (drop j part) (k ∷ []) (λ i. rw (getD-drop j part i 0) (s (j + i))) (λ i q. plain-ink (k ∷ []) (one-small k l) 0 refl i) in
     let g : after ≡ bitOr (getD part j 0) k ∷ drop (j + 1) part =
     e ∙ ap (inkedLine (k ∷ []) 1 0 0) (take-all (length part - j) (drop j part) d) ∙ sym o ∙ ap (λ p. ored p (k ∷ [])) (cut part j h) ∙ ored-one (getD part j 0) k (drop (j + 1) part) in
-    rw (drop-of-length-le (drop j part) d, append-nil, g) (sym (store-cut part j (bitOr (getD part j 0) k) h))
+    let n : j + 1 ≡ suc j = omega arith in
+    rw (drop-of-length-le (drop j part) d, append-nil, g, n) (sym (set-split part j (bitOr (getD part j 0) k) h))

@@ -6,7 +6,7 @@ use Prim.Native.Nat.{ℕ, zero, suc, _+_, _-_, _≤_, _<_}
 use native.Mathlib.Omega.{arith}
 use native.Mathlib.Numerals.{add-one}
 use native.Mathlib.Nat.{le-of-suc-le-suc, not-suc-le-zero}
-use lib.ListN.{length, getD, take, drop, set, replicate, length-set, length-replicate, length-drop, replicate-append-replicate}
+use lib.ListN.{length, getD, take, drop, set, replicate, length-set, length-replicate, length-drop, getD-replicate, replicate-append-replicate}
 use lib.Seq.{sets, length-sets, length-take-le, take-add, drop-drop, getD-take, getD-drop, getD-set-same, getD-set-other, ext-getD}
 use Rattle.common.proofs.Choices.{le-or-lt}
 use Rattle.common.proofs.Places.{cut}
@@ -30,12 +30,6 @@ in-text l i (a ∷ v) (suc j) k e h q = in-text (set l i a) (suc i) v j k (omega
 pub behind-text : (l : List ℕ) (i : ℕ) (v : List ℕ) (j : ℕ) → i + length v ≤ j → getD (sets l i v) j 0 ≡ getD l j 0
 behind-text l i [] j h = refl
 behind-text l i (a ∷ v) j h = behind-text (set l i a) (suc i) v j (omega arith) ∙ getD-set-other l i j a 0 (λ e. omega arith)
-
--- a run has its byte everywhere
-pub run-at : (n b j : ℕ) → j < n → getD (replicate n b) j 0 ≡ b
-run-at zero b j h = absurd (not-suc-le-zero h)
-run-at (suc n) b zero h = refl
-run-at (suc n) b (suc j) h = run-at n b j (le-of-suc-le-suc h)
 
 -- a list that agrees everywhere is the list with the text
 pub text-is : (l after : List ℕ) (i : ℕ) (v : List ℕ) → length after ≡ length l → ((j : ℕ) → j < i → getD after j 0 ≡ getD l j 0)
@@ -84,7 +78,7 @@ over-blank before after at n text o e =
   where
     zeros : (l : List ℕ) (i j : ℕ) → i ≤ j → j < length l → getD (sets l i (replicate (length l) 0)) j 0 ≡ 0
     zeros l i j h q =
-        in-text l i (replicate (length l) 0) (j - i) j (omega arith) (omega (arith, length-replicate {A = ℕ} (length l) 0)) q ∙ run-at (length l) 0 (j - i) (omega arith)
+        in-text l i (replicate (length l) 0) (j - i) j (omega arith) (omega (arith, length-replicate {A = ℕ} (length l) 0)) q ∙ getD-replicate (length l) (j - i) 0 0 (omega arith)
 
 -- ---- runs
 
@@ -100,7 +94,7 @@ pub over-block : (row after : List ℕ) (at n b : ℕ) → after ≡ sets row at
 over-block row after at n b e h =
     let l : length (replicate n b) ≡ n = length-replicate n b in
     over-from row after at (replicate 16 b) (replicate n b) e (omega (arith, length-replicate 16 b))
-    (λ j q. run-at 16 b j (omega arith) ∙ sym (run-at n b j (omega arith)))
+    (λ j q. getD-replicate 16 j b 0 (omega arith) ∙ sym (getD-replicate n j b 0 (omega arith)))
 
 -- ---- copies
 

@@ -27,7 +27,7 @@ pub fn copy(row: &mut [u8], at: usize, s: &[u8], i: usize, n: usize)
 }
 
 // A byte goes into n places of the row from a place on, as far as it reaches.
-pub fn fill(row: &mut [u8], at: usize, n: usize, b: u8)
+fn fill(row: &mut [u8], at: usize, n: usize, b: u8)
     ensures { λ _. ⌜ now (row .exit) ≡ sets (now (row .entry)) at (replicate n b) ⌝ }
 {
     let m = least(n, left(row.len(), at));

@@ -3,13 +3,12 @@ use mathlib.Core.Path.{_≡_, refl, sym, ap, _∙_}
 use mathlib.Core.List.{List, [], _∷_, _++_}
 use Prim.Native.Nat.{ℕ, suc, _+_, _-_, _≤_, _<_}
 use native.Mathlib.Omega.{arith}
-use lib.ListN.{length, take, drop, replicate, getD, length-drop, length-replicate, take-append-drop}
+use lib.ListN.{length, take, drop, replicate, getD, length-drop, length-replicate, getD-replicate, take-append-drop}
 use lib.Seq.{take-at, take-suc, length-take-le, getD-drop, ext-getD}
 use borrow.Author.Tests.{ne-eqb}
 use Rattle.common.specs.Lists.{keep, trim}
 use Rattle.common.proofs.Lists.{trim-whole, trim-append}
 use Rattle.ink.specs.Ink.{Used}
-use Rattle.pieces.proofs.Texts.{run-at}
 
 -- what is kept of a row is its front
 pub trim-take : (l : List ℕ) → take (length (trim l)) l ≡ trim l
@@ -34,7 +33,7 @@ trims-used l n u =
     let k : length (drop n l) ≡ length l - n = length-drop n l in
     let z : drop n l ≡ replicate (length l - n) 0 =
     ext-getD 0 (drop n l) (replicate (length l - n) 0) (k ∙ sym (length-replicate (length l - n) 0))
-    (λ j h. getD-drop n l j 0 ∙ u .rest (n + j) (omega arith) ∙ sym (run-at (length l - n) 0 j (omega arith))) in
+    (λ j h. getD-drop n l j 0 ∙ u .rest (n + j) (omega arith) ∙ sym (getD-replicate (length l - n) j 0 0 (omega arith))) in
     let s : l ≡ take n l ++ replicate (length l - n) 0 = sym (take-append-drop n l) ∙ ap (λ q. take n l ++ q) z in
     record { inside = i; same = sym (ap trim s ∙ trim-append (take n l) (length l - n)) }
 
