@@ -1,4 +1,4 @@
-/* The proved leaves, one by one, for tests and measurements: the archive of the crate `leaves`. A slice is a pointer and a length. */
+/* The proved leaves, one by one, for tests and measurements: the archive of the crate `leaf_door`. A slice is a pointer and a length. */
 #ifndef ROVINUSET_LEAVES_H
 #define ROVINUSET_LEAVES_H
 #include <stdbool.h>

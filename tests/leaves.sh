@@ -13,8 +13,8 @@ room=$(mktemp -d)
 trap 'rm -rf "$room"' EXIT
 
 (cd second && cargo build --release --offline --quiet)
-archive leaves
-x86_cc -O2 -Wall -Wextra tests/leaves.c target/staticlib/libleaves.a -o "$room/leaves"
+archive leaf_door
+x86_cc -O2 -Wall -Wextra tests/leaves.c target/staticlib/libleaf_door.a -o "$room/leaves"
 
 failed=0
 for kind in V I D P N; do

@@ -24,7 +24,7 @@ use Rattle.rules.specs.Run.{answer}
 use Rattle.rules.specs.declared.Translated.{Translated}
 use Rattle.theorems.specs.Statements.{RunPromise, TranslatePromise}
 use Rattle.theorems.specs.Facts.{Fits}
-use Rattle.kept.specs.Kept.{stateAt, stateBytes}
+use Rattle.state_load.specs.Kept.{stateAt, stateBytes}
 use Rattle.door.specs.Answers.{MadeAfresh, ranNumber, keptAfter, flagged, Answered, ToldPlain}
 
 module _ (W H : ℕ) (x : Bool) (a : x ≡ allowed W H) where

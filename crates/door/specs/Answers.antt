@@ -18,7 +18,7 @@ use Rattle.rules.specs.States.{afresh}
 use Rattle.rules.specs.Run.{answer}
 use Rattle.rules.specs.Plain.{translate}
 use Rattle.theorems.specs.Statements.{Demand3}
-use Rattle.kept.specs.Kept.{stateAt, stateBytes}
+use Rattle.state_load.specs.Kept.{stateAt, stateBytes}
 
 -- the refusal of a state afresh, 0 for none: 10, and 13 where there is no room for a state
 abbrev pub afreshNumber : ℕ → ℕ → List ℕ → ℕ

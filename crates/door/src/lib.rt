@@ -7,20 +7,20 @@ ghost use lib.ListN.{length, take};
 ghost use Rattle.common.specs.Bits.{onesAll};
 ghost use Rattle.rules.specs.Measure.{allowed, measureOf, pageBytes};
 ghost use Rattle.rules.specs.Sound.{sound};
-ghost use Rattle.kept.specs.Kept.{stateAt};
+ghost use Rattle.state_load.specs.Kept.{stateAt};
 ghost use Rattle.rules.specs.Findings.{verdictNumber};
 ghost use Rattle.door.specs.Answers.{MadeAfresh, ranNumber, keptAfter, flagged, Answered, ToldPlain};
-use fresh::afresh;
-use kept::read_state;
-use numbered::finding_number;
-use numbered::refusal_number;
+use number_finding::finding_number;
+use number_finding::refusal_number;
 use rules::Ran;
 use rules::Refusal;
 use rules::Verdict;
-use soundness::sound;
-use state::allowed;
-use state::measure_of;
-use stored::write_state;
+use state_afresh::afresh;
+use state_load::read_state;
+use state_page::allowed;
+use state_page::measure_of;
+use state_save::write_state;
+use state_sound::sound;
 
 // The state afresh, for a page of w by h dots.
 #[no_mangle]
@@ -65,7 +65,7 @@ pub extern "C" fn rov_dots(w: usize, h: usize, page: &[u8]) -> usize
     if page.len() < n {
         return 0;
     }
-    dots::count(&page[0..n])
+    dot_page::count(&page[0..n])
 }
 
 // What a run told, as one number; the state behind it is written back where it was carried out.
@@ -139,7 +139,7 @@ pub extern "C" fn rov_translate(
 ) -> u32
     ensures { λ n. ⌜ ToldPlain w h (now (stream .entry)) (now (room .entry)) n (now (room .exit)) (now (length .exit)) ⌝ }
 {
-    let r = translate::translate(w, h, stream, room);
+    let r = plain_translate::translate(w, h, stream, room);
     *length = r.length;
     let verdict = r.verdict;
     verdict_number(verdict)

@@ -11,7 +11,7 @@ ghost use Prim.Native.Nat.{_≤_};
 ghost use lib.ListN.{length};
 ghost use Rattle.rules.specs.Measure.{allowed, measureOf, pageBytes, longestStream};
 ghost use Rattle.rules.specs.States.{afresh};
-ghost use Rattle.opening.specs.Opening.{longestLines};
+ghost use Rattle.pages_open.specs.Opening.{longestLines};
 use rules::State;
 
 // A place for the longest job and one byte, in zeros. A function of its own hides the zeros, of which no proof can count so many.
@@ -33,7 +33,7 @@ fn measure_word(i: usize, otherwise: usize) -> usize {
     }
     let mut word = [0u8; 20];
     let n = os::arg(i, &mut word);
-    words::measure_of_word(&word[..n])
+    number_word::measure_of_word(&word[..n])
 }
 
 // The state before the first step.
@@ -41,7 +41,7 @@ fn first_state(w: usize, h: usize) -> State
     requires { ⌜ allowed w h ≡ true ⌝ }
     ensures { λ r. ⌜ r ≡ afresh (measureOf w h) ⌝ }
 {
-    fresh::afresh(state::measure_of(w, h))
+    state_afresh::afresh(state_page::measure_of(w, h))
 }
 
 // A page behind its head, if there is one to be written; whether all of it was.
@@ -67,7 +67,7 @@ fn write_steps(page: &mut [u8], w: usize, h: usize, s: &[u8], head: &[u8], room:
     let mut number: usize = 1;
     let mut findings: usize = 0;
     loop {
-        let r = sheets::next(page, w, h, s, state, place, number, findings, room);
+        let r = pages_step::next(page, w, h, s, state, place, number, findings, room);
         if !write_page(r.drawn, head, page) {
             return false;
         }
@@ -100,7 +100,7 @@ fn write_pages(w: usize, h: usize, s: &[u8], head: &[u8], room: &mut [u8]) -> bo
 // The first lines of a job, and its pages if it is not refused; whether all was written.
 fn write_job(w: usize, h: usize, s: &[u8]) -> bool {
     let mut room = [0u8; 135];
-    let first = opening::begin(w, h, s, &mut room);
+    let first = pages_open::begin(w, h, s, &mut room);
     let end = first.end;
     if !io::write_all(STDERR_FILENO, &room[..end]) {
         return false;
@@ -109,7 +109,7 @@ fn write_job(w: usize, h: usize, s: &[u8]) -> bool {
         return true;
     }
     let mut head = [0u8; 45];
-    let head_end = opening::write_head(w, h, &mut head);
+    let head_end = pages_open::write_head(w, h, &mut head);
     write_pages(w, h, s, &head[..head_end], &mut room)
 }
 

@@ -22,7 +22,7 @@ fn measure_word(i: usize, otherwise: usize) -> usize {
     }
     let mut word = [0u8; 20];
     let n = os::arg(i, &mut word);
-    words::measure_of_word(&word[..n])
+    number_word::measure_of_word(&word[..n])
 }
 
 // What is said of a stream, a refusal on standard error; whether it was written.
@@ -39,7 +39,7 @@ fn main() {
     let mut input = longest_input();
     let n = io::read_full(STDIN_FILENO, &mut input);
     let mut room = longest_room();
-    let said = saying::say_plain(w, h, &input[..n], &mut room);
+    let said = plain_say::say_plain(w, h, &input[..n], &mut room);
     let end = said.end;
     if !write_said(said.refused, &room[..end]) {
         io::write_all(STDERR_FILENO, b"UNWRITTEN\n");

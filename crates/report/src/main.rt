@@ -6,7 +6,7 @@ use libc::STDIN_FILENO;
 use libc::STDOUT_FILENO;
 ghost use mathlib.Core.Path.{_≡_};
 ghost use lib.ListN.{length};
-ghost use Rattle.printing.specs.Bound.{longestReport};
+ghost use Rattle.report_laws.specs.Bound.{longestReport};
 
 // A room for the longest report, in zeros. A function of its own hides the zeros, of which no proof can count so many.
 fn longest_room() -> [u8; 2228358]
@@ -19,7 +19,7 @@ fn main() {
     let mut input = [0u8; 65537];
     let n = io::read_full(STDIN_FILENO, &mut input);
     let mut room = longest_room();
-    let end = reporter::write_report(&input[..n], &mut room);
+    let end = report_write::write_report(&input[..n], &mut room);
     if !io::write_all(STDOUT_FILENO, &room[..end]) {
         io::write_all(STDERR_FILENO, b"UNWRITTEN\n");
     }

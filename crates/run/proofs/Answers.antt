@@ -22,7 +22,7 @@ use Rattle.theorems.specs.Statements.{RunPromise}
 use Rattle.theorems.specs.Facts.{Fits, SoundState}
 use Rattle.theorems.proofs.Measures.{allowed-gives}
 use Rattle.theorems.proofs.Sound.{state-facts}
-use Rattle.turns.specs.Turns.{RunsOn}
+use Rattle.run_items.specs.Turns.{RunsOn}
 
 -- the measure as the paper allows it
 pub fits : (W H : ℕ) (x : Bool) → x ≡ allowed W H → not x ≡ false → (g : Measure) → g ≡ measureOf W H → Fits g

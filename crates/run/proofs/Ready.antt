@@ -8,14 +8,14 @@ use native.Mathlib.Omega.{arith}
 use lib.Dec.{eqb}
 use lib.ListN.{length, take, drop, replicate, length-append, length-replicate, drop-of-length-le}
 use lib.Seq.{take-append-le}
-use Rattle.dots.specs.Zeros.{FirstZero}
+use Rattle.dot_page.specs.Zeros.{FirstZero}
 use Rattle.rules.specs.declared.Measure.{Measure}
 use Rattle.rules.specs.declared.State.{State}
 use Rattle.rules.specs.declared.Ran.{Ran}
 use Rattle.rules.specs.Measure.{pageBytes, blank}
 use Rattle.rules.specs.Acts.{over}
 use Rattle.rules.specs.Run.{runFrom, run}
-use Rattle.turns.specs.Turns.{RunsOn, StillBlank}
+use Rattle.run_items.specs.Turns.{RunsOn, StillBlank}
 
 -- all of the page zeroed
 pub cleared : (p after : List ℕ) (n : ℕ) → n ≡ length p → after ≡ replicate (min n (length p)) 0 ++ drop n p → after ≡ replicate (length p) 0

@@ -6,25 +6,25 @@ ghost use mathlib.Core.Bool.{cond, _||_};
 ghost use Prim.Native.Nat.{ℕ, _≤_};
 ghost use lib.Dec.{eqb};
 ghost use lib.ListN.{length, replicate};
-ghost use Rattle.dots.specs.Zeros.{FirstZero};
+ghost use Rattle.dot_page.specs.Zeros.{FirstZero};
 ghost use Rattle.rules.specs.declared.Refusal.{Refusal};
 ghost use Rattle.rules.specs.Measure.{pageBytes};
 ghost use Rattle.rules.specs.Run.{run, refused};
 ghost use Rattle.theorems.specs.Facts.{Fits, Shaped, SoundState};
 ghost use Rattle.theorems.specs.Statements.{RunPromise};
-ghost use Rattle.turns.specs.Turns.{RunsOn};
-use dots::clear;
+ghost use Rattle.run_items.specs.Turns.{RunsOn};
+use dot_page::clear;
 use rules::Finding;
 use rules::Measure;
 use rules::Ran;
 use rules::Refusal;
 use rules::State;
 use rules::Verdict;
-use soundness::sound;
-use state::allowed;
-use state::measure_of;
-use turns::is_over;
-use turns::run_items;
+use run_items::is_over;
+use run_items::run_items;
+use state_page::allowed;
+use state_page::measure_of;
+use state_sound::sound;
 
 // With the page unused and an item to do, a run zeroes the page first. Given is how many bytes of it are then known to be zero.
 fn ready_page(page: &mut [u8], used: bool, allowance: usize, over: bool) -> usize

@@ -2,7 +2,7 @@
 use borrow.Author.Needs.{needs}
 use Rattle.pages.proofs.first_state.Statement.{statement}
 use Rattle.pages.proofs.first_state.Tie as tie
-use Rattle.sheets.proofs.Stepping.{allowed-fits, allowed-afresh}
+use Rattle.pages_step.proofs.Stepping.{allowed-fits, allowed-afresh}
 
 measure-of-requires : tie.Need-measure-of-requires
 measure-of-requires c κs = search needs

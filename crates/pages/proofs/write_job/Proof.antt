@@ -3,7 +3,7 @@ use lib.ListN.{length-take}
 use borrow.Author.Needs.{needs}
 use Rattle.pages.proofs.write_job.Statement.{statement}
 use Rattle.pages.proofs.write_job.Tie as tie
-use Rattle.sheets.proofs.Stepping.{drawn-job}
+use Rattle.pages_step.proofs.Stepping.{drawn-job}
 
 slice-aggregate-begin : tie.Need-slice-aggregate-begin
 slice-aggregate-begin c = search needs

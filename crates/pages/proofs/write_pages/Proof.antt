@@ -4,7 +4,7 @@ use mathlib.Core.Path.{sym}
 use borrow.Author.Needs.{needs}
 use Rattle.pages.proofs.write_pages.Statement.{statement}
 use Rattle.pages.proofs.write_pages.Tie as tie
-use Rattle.sheets.proofs.Stepping.{allowed-bytes, allowed-within, part-length}
+use Rattle.pages_step.proofs.Stepping.{allowed-bytes, allowed-within, part-length}
 
 largest-page-requires : tie.Need-largest-page-requires
 largest-page-requires c κs = search needs

@@ -6,7 +6,7 @@ use Rattle.pages.proofs.write_steps.Tie as tie
 use lib.ListN.{drop, length-take}
 use native.Mathlib.Omega.{arith}
 use Rattle.theorems.proofs.Reading.{left}
-use Rattle.sheets.proofs.Stepping.{Stepping, stepping-start, stepping-small, stepping-less, stepping-again}
+use Rattle.pages_step.proofs.Stepping.{Stepping, stepping-start, stepping-small, stepping-less, stepping-again}
 
 abbrev Inv-loop : tie.InvT-loop
 Inv-loop page₀ w h s head room₀ state₀ place₀ number₀ findings₀ page room state place number findings =

@@ -1,0 +1,25 @@
+-- `do_raster::resolution_at` meets its contract. Assumes nothing.
+use Rattle.do_raster.proofs.Heights.{resolution-fits}
+use Rattle.do_raster.proofs.Rastering.{resolution, resolution-barred, resolution-late}
+use borrow.Author.Needs.{needs}
+use Rattle.do_raster.proofs.resolution_at.Statement.{statement}
+use Rattle.do_raster.proofs.resolution_at.Tie as tie
+
+is-resolution-requires : tie.Need-is-resolution-requires
+is-resolution-requires c κs = search needs
+
+returns : tie.Need-returns
+returns c = λ g v p l deep e. search (resolution-late, e, needs)
+
+cast-dots : tie.Need-cast-dots
+cast-dots c = search (resolution-fits, needs)
+
+returns-2 : tie.Need-returns-2
+returns-2 c = λ g v p l deep e. search (resolution, e, needs)
+
+returns-3 : tie.Need-returns-3
+returns-3 c = λ g v p l deep e. search (resolution-barred, e, needs)
+
+pub resolution-at-spec : {M : Type 1} → statement M
+resolution-at-spec =
+    tie.close (tie.spec is-resolution-requires returns cast-dots returns-2 returns-3)

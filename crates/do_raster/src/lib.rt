@@ -1,0 +1,106 @@
+// Paper 01, "Commands": what a command changes in the raster state, and the finding that bars it. A measure within 4,800 by 6,800 dots is asked for, so
+// that lengths fit. A function that is handed a number and no value is handed the number that the rules make of the value, and its promise is for each
+// such value.
+ghost use mathlib.Core.Path.{_≡_};
+ghost use mathlib.Core.Bool.{cond};
+ghost use Prim.Native.Nat.{ℕ, _*_, _/_, _≤_};
+ghost use lib.Dec.{eqb};
+ghost use Rattle.rules.specs.declared.Measure.{Measure};
+ghost use Rattle.rules.specs.declared.Value.{Value};
+ghost use Rattle.rules.specs.declared.Spot.{Spot};
+ghost use Rattle.rules.specs.declared.Layout.{Layout};
+ghost use Rattle.rules.specs.declared.Kind.the-variants.{Resolution, StartRaster, EndRaster, ResetRaster, SkipRows};
+ghost use Rattle.rules.specs.Measure.{inch};
+ghost use Rattle.rules.specs.Number.{wholePart};
+ghost use Rattle.do_change.specs.Changed.{Changed};
+use do_change::Change;
+use rules::Finding;
+use rules::Measure;
+use rules::Raster;
+use rules::Spot;
+use state_page::inch_over;
+use state_page::into_height;
+use state_page::is_resolution;
+
+// The height of n rows.
+fn rows_high(n: u32, resolution: u16) -> u64
+    requires { ⌜ n ≤ 429496 ⌝ }
+    ensures { λ r. ⌜ (r ≡ n * (inch / resolution)) × (r ≤ 3092371200) ⌝ }
+{
+    (n as u64) * (inch_over(resolution as u32) as u64)
+}
+
+// *t#R: the resolution set, unless raster is started.
+pub fn resolution_at(n: u32, r: Raster) -> Change
+    ensures { λ q. ⌜ ((g : Measure) (v : Value) (p : Spot) (l : Layout) (deep : ℕ) → n ≡ wholePart v → Changed g Resolution v p l r deep q) ⌝ }
+{
+    if is_resolution(n) {
+        if r.started {
+            return Change::Barred(Finding::NotNow);
+        }
+        let dots = n as u16;
+        let mut set = r;
+        set.resolution = dots;
+        return Change::Drawn(set);
+    }
+    Change::Barred(Finding::NotAllowed)
+}
+
+// The graphics margin that *r#A sets: 0 or x.
+fn margin_at(n: u32, x: u32) -> u32
+    ensures { λ r. ⌜ r ≡ cond (eqb n 0) 0 x ⌝ }
+{
+    if n == 0 { 0 } else { x }
+}
+
+// *r#A: raster started.
+pub fn start_at(n: u32, at: Spot, r: Raster) -> Change
+    ensures { λ q. ⌜ ((g : Measure) (v : Value) (l : Layout) (deep : ℕ) → n ≡ wholePart v → Changed g StartRaster v at l r deep q) ⌝ }
+{
+    if 1 < n {
+        return Change::Barred(Finding::NotAllowed);
+    }
+    if r.started {
+        return Change::Barred(Finding::NotNow);
+    }
+    let margin = margin_at(n, at.x);
+    let resolution = r.resolution;
+    Change::Fresh(Raster {
+        resolution,
+        started: true,
+        margin,
+    })
+}
+
+// *rB: raster ended.
+pub fn end_at(r: Raster) -> Change
+    ensures { λ q. ⌜ ((g : Measure) (v : Value) (p : Spot) (l : Layout) (deep : ℕ) → Changed g EndRaster v p l r deep q) ⌝ }
+{
+    let mut ended = r;
+    ended.started = false;
+    Change::Drawn(ended)
+}
+
+// *rC: raster ended, the graphics margin 0, the seed row zeroed, the row method 0.
+pub fn reset_at(r: Raster) -> Change
+    ensures { λ q. ⌜ ((g : Measure) (v : Value) (p : Spot) (l : Layout) (deep : ℕ) → Changed g ResetRaster v p l r deep q) ⌝ }
+{
+    let resolution = r.resolution;
+    Change::Reset(Raster {
+        resolution,
+        started: false,
+        margin: 0,
+    })
+}
+
+// *b#Y: the cursor n rows further down, if raster is started.
+pub fn skip_at(g: Measure, n: u32, at: Spot, r: Raster) -> Change
+    requires { ⌜ (g .wide ≤ 600) × (g .high ≤ 6800) × (n ≤ 429496) ⌝ }
+    ensures { λ q. ⌜ ((v : Value) (l : Layout) (deep : ℕ) → n ≡ wholePart v → Changed g SkipRows v at l r deep q) ⌝ }
+{
+    if r.started {
+        let y = into_height(g, at.y as u64 + rows_high(n, r.resolution));
+        return Change::To(Spot { x: at.x, y });
+    }
+    Change::Barred(Finding::NotNow)
+}

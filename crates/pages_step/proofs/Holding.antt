@@ -1,0 +1,67 @@
+-- What a step writes into its room, and that the room is always large enough. Assumes nothing.
+use mathlib.Core.Path.{_≡_}
+use Prim.Native.Nat.{ℕ, _+_, _≤_}
+use native.Mathlib.Omega.{arith}
+use mathlib.Core.List.{List, [], _∷_}
+use mathlib.Core.Bool.{Bool, cond}
+use lib.Dec.{eqb}
+use lib.ListN.{length}
+use borrow.Author.Tests.{eq-eqb, ne-eqb}
+use Rattle.common.specs.Bits.{onesAll}
+use Rattle.common.specs.Stores.{Wrote}
+use Rattle.common.proofs.Choices.{choice}
+use Rattle.rules.specs.declared.State.{State}
+use Rattle.rules.specs.declared.Ran.{Ran}
+use Rattle.rules.specs.Findings.{findingNumber, isClean}
+use Rattle.rules.specs.Acts.{World, world}
+use Rattle.rules.specs.Report.{line, PAGE, END, lastLines}
+use Rattle.theorems.specs.Statements.{RunPromise}
+use Rattle.report_laws.specs.Left.{counted, printed}
+use Rattle.report_laws.proofs.Bound.{end-length}
+use Rattle.pages_open.specs.Opening.{longestLines}
+use Rattle.pages_open.proofs.Holding.{held, two-most}
+use Rattle.pages_step.specs.Steps.{isOver, isDrawn, stepLines, stepItems, Stepped}
+
+-- ---- how long
+-- the line of a page in front of s
+page-most : (number dots : ℕ) (s : List ℕ) → length (line PAGE (number ∷ dots ∷ []) s) ≤ 47 + length s
+page-most number dots s = let e = two-most number dots s in omega arith
+
+-- the last lines
+last-most : (number : ℕ) (w : World) (n : ℕ) → length (lastLines number w n) ≤ longestLines
+last-most number w n =
+    let end : List ℕ = line END (w .core .at .x ∷ w .core .at .y ∷ w .core .depth ∷ n ∷ []) [] in
+    let e : length end ≤ 88 = end-length (w .core .at .x) (w .core .at .y) (w .core .depth) n in
+    choice (λ (r : List ℕ). length r ≤ longestLines) (w .core .used) (omega (arith, page-most number (onesAll (w .page)) end)) (omega arith)
+
+-- the lines of a run
+printed-most : (number : ℕ) (o : Ran) (p : List ℕ) → length (printed number o p []) ≤ longestLines
+printed-most number o p =
+    let page : List ℕ = cond (o .ended) (line PAGE (number ∷ onesAll p ∷ []) []) [] in
+    let e : length page ≤ 47 = choice (λ (l : List ℕ). length l ≤ 47) (o .ended) (omega (arith, page-most number (onesAll p) [])) (omega arith) in
+    let i = two-most (o .found) (findingNumber (o .finding)) page in
+    choice (λ (l : List ℕ). length l ≤ longestLines) (isClean (o .finding)) (omega arith) (omega arith)
+
+-- the lines of a step
+step-most : (number findings : ℕ) (o : Ran) (p : List ℕ) → length (stepLines number findings o p) ≤ longestLines
+step-most number findings o p = choice (λ l. length l ≤ longestLines) (isOver o) (last-most number (world (o .state .core) p []) findings) (printed-most number o p)
+
+-- ---- what is written
+-- the lines of a run, and of the end
+pub step-run : {l l' : List ℕ} {r : ℕ} (number findings : ℕ) (o : Ran) (p : List ℕ) → (o .done ≡ 0 → ⊥) → Wrote l 0 (printed number o p []) l' r → Wrote l 0 (stepLines number findings o p) l' r
+step-run number findings o p z w = rw (ne-eqb (o .done) 0 z) w
+
+pub step-end : {l l' : List ℕ} {r : ℕ} (number findings : ℕ) (o : Ran) (p : List ℕ) → o .done ≡ 0
+    → Wrote l 0 (lastLines number (world (o .state .core) p []) findings) l' r → Wrote l 0 (stepLines number findings o p) l' r
+step-end number findings o p z w = rw (eq-eqb (o .done) 0 z) w
+
+-- a step
+pub stepped : {W H : ℕ} {page s : List ℕ} {t : State} {place number findings : ℕ} {room page′ room′ : List ℕ} {o : Ran} {end i j : ℕ} {drawn : Bool}
+    → RunPromise W H page s t place stepItems o page′ → Wrote room 0 (stepLines number findings o page′) room′ end → drawn ≡ isDrawn o
+    → i ≡ cond (o .ended) 1 0 → j ≡ counted (o .finding)
+    → Stepped W H page s t place number findings room (record { state = o .state; place = o .place; number = number + i; findings = findings + j; end = end; drawn = drawn; over = eqb (o .done) 0 }) page′ room′
+stepped {number = number} {findings} {room} {page′} {room′} {o} {end} p w d x y = record {
+  given = rw (← p .given, d, x, y);
+  lent = p .lent;
+  holds = rw (← p .given, ← p .lent) (held (step-most number findings o page′) w);
+}

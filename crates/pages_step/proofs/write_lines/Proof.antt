@@ -1,0 +1,28 @@
+-- `pages_step::write_lines` meets its contract. Assumes nothing.
+use borrow.Author.Needs.{needs}
+use Rattle.pages_step.proofs.write_lines.Statement.{statement}
+use Rattle.pages_step.proofs.write_lines.Tie as tie
+use Rattle.pages_step.proofs.Holding.{step-run, step-end}
+
+write-last-requires : tie.Need-write-last-requires
+write-last-requires c κs = search needs
+
+same-length : tie.Need-same-length
+same-length c = search needs
+
+returns : tie.Need-returns
+returns c = search (step-end, needs)
+
+write-ran-requires : tie.Need-write-ran-requires
+write-ran-requires c κs = search needs
+
+same-length-2 : tie.Need-same-length-2
+same-length-2 c = search needs
+
+returns-2 : tie.Need-returns-2
+returns-2 c = search (step-run, needs)
+
+pub write-lines-spec : {M : Type 1} → statement M
+write-lines-spec =
+    tie.close
+    (tie.spec write-last-requires same-length returns write-ran-requires same-length-2 returns-2)

@@ -1,0 +1,94 @@
+// A job in steps, for a program that writes its pages and its lines as they come: neither all pages nor all lines fit in a room.
+// A step is one run: it leaves a page to be written in the page buffer, and its lines in a room. Nothing is refused: a job as a whole is, by `pages_open::begin`.
+ghost use mathlib.Core.Path.{_≡_};
+ghost use Prim.Native.Nat.{_≤_};
+ghost use lib.ListN.{length};
+ghost use Rattle.common.specs.Stores.{Wrote};
+ghost use Rattle.dot_page.specs.Zeros.{FirstZero};
+ghost use Rattle.pages_step.specs.Steps.{Stepped, isDrawn, stepLines};
+use report_page::write_last;
+use report_run::count_of;
+use report_run::one_if;
+use report_run::write_ran;
+use rules::Ran;
+use rules::State;
+
+// Items a step is allowed: more than any job has.
+const ALLOWANCE: usize = 2097153;
+
+// What a step leaves: the state, the place, the number of the page being drawn and the findings so far, all for the next step; where its
+// lines end in the room; whether the page buffer holds a page to be written; whether the job is over.
+pub struct Sheet {
+    pub state: State,
+    pub place: usize,
+    pub number: usize,
+    pub findings: usize,
+    pub end: usize,
+    pub drawn: bool,
+    pub over: bool,
+}
+
+// Whether a page is to be written: one that was ended, or the last if it is used.
+fn is_drawn(o: Ran) -> bool
+    ensures { λ r. ⌜ r ≡ isDrawn o ⌝ }
+{
+    if o.done == 0 {
+        return o.state.core.used;
+    }
+    o.ended
+}
+
+// The lines of a run, or the last ones where nothing was left to do. The first `zeros` bytes of the page are known to be zero.
+fn write_lines(
+    o: Ran,
+    number: usize,
+    findings: usize,
+    page: &[u8],
+    zeros: usize,
+    room: &mut [u8],
+) -> usize
+    requires { ⌜ (length (now page) ≤ 4294967296) × FirstZero zeros (now page) ⌝ }
+    ensures { λ r. ⌜ Wrote (now (room .entry)) 0 (stepLines number findings o (now (page .entry))) (now (room .exit)) r ⌝ }
+{
+    if o.done == 0 {
+        let t = o.state;
+        let core = t.core;
+        return write_last(number, core, page, findings, room, 0);
+    }
+    write_ran(o, number, page, zeros, room, 0)
+}
+
+// One step of the job s: a run from the place on, on the page that is lent, and its lines at the front of the room. A page of at most
+// 2^32 bytes is asked for, so that its dots can be counted, and numbers that can be counted on.
+pub fn next(
+    page: &mut [u8],
+    w: usize,
+    h: usize,
+    s: &[u8],
+    t: State,
+    place: usize,
+    number: usize,
+    findings: usize,
+    room: &mut [u8],
+) -> Sheet
+    requires { ⌜ (length (now page) ≤ 4294967296) × (number ≤ 4294967296) × (findings ≤ 4294967296) ⌝ }
+    ensures { λ r. ⌜ Stepped w h (now (page .entry)) (now (s .entry)) t place number findings (now (room .entry)) r (now (page .exit)) (now (room .exit)) ⌝ }
+{
+    let mut zeros: usize = 0;
+    let o = run::run_and_zeros(page, w, h, s, t, place, ALLOWANCE, &mut zeros);
+    let end = write_lines(o, number, findings, page, zeros, room);
+    let drawn = is_drawn(o);
+    let next_number = number + one_if(o.ended);
+    let f = o.finding;
+    let all_findings = findings + count_of(f);
+    let state = o.state;
+    Sheet {
+        state,
+        place: o.place,
+        number: next_number,
+        findings: all_findings,
+        end,
+        drawn,
+        over: o.done == 0,
+    }
+}

@@ -1,0 +1,45 @@
+-- What the program `plain` says: the plain stream, or "a refusal .. in one line", REFUSED and its number.
+use mathlib.Core.Path.{_≡_}
+use mathlib.Core.Bool.{Bool, true, false}
+use mathlib.Core.List.{List, [], _∷_}
+use Prim.Native.Nat.{ℕ, _≤_, min}
+use lib.ListN.{length}
+use lib.Seq.{sets}
+use Rattle.rules.specs.declared.Refusal.{Refusal}
+use Rattle.rules.specs.declared.Verdict.{Verdict}
+use Rattle.rules.specs.declared.Verdict.the-variants.{Carried, Refused}
+use Rattle.rules.specs.Measure.{measureOf}
+use Rattle.rules.specs.Findings.{refusalNumber}
+use Rattle.rules.specs.Plain.{plain, translate}
+use Rattle.rules.specs.Report.{line, REFUSED}
+use Rattle.plain_say.specs.declared.Saying.{Saying}
+
+abbrev pub isRefused : Verdict → Bool
+isRefused Carried = false
+isRefused (Refused why) = true
+
+abbrev pub refusedLine : Refusal → List ℕ
+refusedLine why = line REFUSED (refusalNumber why ∷ []) []
+
+-- by the verdict, and the plain stream p
+abbrev pub saidBy : Verdict → List ℕ → List ℕ
+saidBy Carried p = p
+saidBy (Refused why) p = refusedLine why
+
+abbrev pub verdictOf : ℕ → ℕ → List ℕ → List ℕ → Verdict
+verdictOf W H s room = translate W H s room .given .verdict
+
+abbrev pub said : ℕ → ℕ → List ℕ → List ℕ → List ℕ
+said W H s room = saidBy (verdictOf W H s room) (plain (measureOf W H) s)
+
+-- a refusal said
+pub record SaysRefused (why : Refusal) (room : List ℕ) (r : Saying) (after : List ℕ) : Type 0 where
+  pub refused : r .refused ≡ true
+  pub end : r .end ≡ min (length (refusedLine why)) (length room)
+  pub held : after ≡ sets room 0 (refusedLine why)
+
+-- what is said stands at the front of the room, as far as there is room, and the rest of the room is as it was
+pub record Says (W H : ℕ) (s room : List ℕ) (r : Saying) (after : List ℕ) : Type 0 where
+  pub refused : r .refused ≡ isRefused (verdictOf W H s room)
+  pub end : r .end ≡ min (length (said W H s room)) (length room)
+  pub held : after ≡ sets room 0 (said W H s room)

@@ -1,0 +1,74 @@
+// The report of a stream, written into a room that is lent: its lines in item order, as successive runs find them.
+// Nothing is refused: a stream over the program's limit has a report that says so, and what has no room is not written.
+ghost use mathlib.Core.Path.{_≡_};
+ghost use mathlib.Core.List.{[]};
+ghost use Prim.Native.Nat.{_≤_};
+ghost use lib.ListN.{length};
+ghost use Rattle.common.specs.Stores.{Wrote};
+ghost use Rattle.rules.specs.States.{afresh};
+ghost use Rattle.rules.specs.Report.{reportPage};
+ghost use Rattle.report_laws.specs.Left.{streamLines};
+ghost use Rattle.report_laws.specs.Bound.{Reported};
+use report_run::count_of;
+use report_run::one_if;
+use report_run::write_ran;
+use rules::State;
+
+// "Reads up to 65,536 bytes of standard input, page 640 × 800."
+const WIDTH: usize = 640;
+
+const HEIGHT: usize = 800;
+
+const LIMIT: usize = 65536;
+
+// The number of a stream that is too long.
+const TOO_LONG: usize = 12;
+
+// Items a run is allowed: more than such a stream has. Any number above 0 prints the same.
+const ALLOWANCE: usize = 131073;
+
+// The state before the first run.
+fn first_state() -> State
+    ensures { λ r. ⌜ r ≡ afresh reportPage ⌝ }
+{
+    state_afresh::afresh(state_page::measure_of(WIDTH, HEIGHT))
+}
+
+// The lines behind SIZE: run after run, until nothing is left to do. Every page is counted, as if none of its bytes were known to be zero.
+fn write_stream(s: &[u8], page: &mut [u8], room: &mut [u8], at: usize) -> usize
+    requires { ⌜ length (now s) ≤ 65536 ⌝ }
+    requires { ⌜ length (now page) ≡ 64000 ⌝ }
+    ensures { λ r. ⌜ Wrote (now (room .entry)) at (streamLines reportPage (now (s .entry))) (now (room .exit)) r ⌝ }
+{
+    let mut state = first_state();
+    let mut place: usize = 0;
+    let mut number: usize = 1;
+    let mut findings: usize = 0;
+    let mut next = at;
+    loop {
+        let o = run::run(page, WIDTH, HEIGHT, s, state, place, ALLOWANCE);
+        let t = o.state;
+        if o.done == 0 {
+            let core = t.core;
+            return report_page::write_last(number, core, page, findings, room, next);
+        }
+        let f = o.finding;
+        next = write_ran(o, number, page, 0, room, next);
+        number += one_if(o.ended);
+        findings += count_of(f);
+        place = o.place;
+        state = t;
+    }
+}
+
+// The report of a stream, as far as there is room; the place behind it is given.
+pub fn write_report(s: &[u8], room: &mut [u8]) -> usize
+    ensures { λ r. ⌜ Reported (now (s .entry)) (now (room .entry)) (now (room .exit)) r ⌝ }
+{
+    let behind = report_fault::write_size(WIDTH, HEIGHT, room, 0);
+    if LIMIT < s.len() {
+        return report_fault::write_refused(TOO_LONG, room, behind);
+    }
+    let mut page = [0u8; 64000];
+    write_stream(s, &mut page, room, behind)
+}
