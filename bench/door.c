@@ -8,13 +8,13 @@
 enum { W = 4800, H = 6800, PAGE = W / 8 * H };
 
 typedef uint32_t (*run_function)(size_t, size_t, uint8_t *, size_t, const uint8_t *, size_t, uint8_t *, size_t, size_t,
-                                 size_t *, size_t *, size_t *, size_t *);
+                                 size_t *, size_t *, uint32_t *, size_t *, size_t *);
 
 /* One side: its function, and what the function changes. */
 struct side {
     run_function run;
     size_t place, done, found, ended;
-    uint32_t code;
+    uint32_t finding, refusal;
     uint8_t state[ROV_STATE], *page;
     double whole, parts; /* the least times */
 };
@@ -32,11 +32,11 @@ static void start(struct side *s) {
 }
 
 static void step(struct side *s, const uint8_t *bytes, size_t n, size_t allowance) {
-    s->code = s->run(W, H, s->page, PAGE, bytes, n, s->state, ROV_STATE, allowance, &s->place, &s->done, &s->found, &s->ended);
+    s->refusal = s->run(W, H, s->page, PAGE, bytes, n, s->state, ROV_STATE, allowance, &s->place, &s->done, &s->finding, &s->found, &s->ended);
 }
 
 /* A run that stopped for no finding and no page end has come to the stream's end. */
-static int at_end(const struct side *s) { return s->code >= 10 || (s->code == 0 && !s->ended); }
+static int at_end(const struct side *s) { return s->refusal || (!s->finding && !s->ended); }
 
 static double time_of(struct side *s, const size_t *bounds, size_t parts) {
     double t;
@@ -62,8 +62,8 @@ static void find_cuts(void) {
 }
 
 static int same_numbers(void) {
-    return proved.code == plain.code && proved.place == plain.place && proved.done == plain.done && proved.found == plain.found &&
-           proved.ended == plain.ended && memcmp(proved.state, plain.state, ROV_STATE) == 0;
+    return proved.refusal == plain.refusal && proved.finding == plain.finding && proved.place == plain.place && proved.done == plain.done &&
+           proved.found == plain.found && proved.ended == plain.ended && memcmp(proved.state, plain.state, ROV_STATE) == 0;
 }
 
 static int both_do_the_same(void) {
@@ -74,7 +74,7 @@ static int both_do_the_same(void) {
     do {
         step(&proved, stream, MOST, SIZE_MAX);
         step(&plain, stream, MOST, SIZE_MAX);
-        if (proved.code >= 10 || !same_numbers()) return 0;
+        if (proved.refusal || !same_numbers()) return 0;
         if ((proved.ended || at_end(&proved)) && memcmp(proved_page, plain_page, PAGE)) return 0;
     } while (!at_end(&proved));
     return proved.place == MOST;

@@ -579,12 +579,13 @@ static uint32_t refusal(size_t W, size_t H, size_t page_n, size_t stream_n, cons
 }
 
 uint32_t plain_run(size_t W, size_t H, uint8_t *page, size_t page_n, const uint8_t *stream, size_t stream_n,
-                   uint8_t *state, size_t state_n, size_t allowance, size_t *place, size_t *done, size_t *found, size_t *ended) {
+                   uint8_t *state, size_t state_n, size_t allowance, size_t *place, size_t *done, uint32_t *finding, size_t *found, size_t *ended) {
     struct reader r;
-    uint32_t finding = refusal(W, H, page_n, stream_n, state, state_n, *place);
+    uint32_t told = 0, refused = refusal(W, H, page_n, stream_n, state, state_n, *place);
     size_t count = 0;
+    *finding = 0;
     *done = *found = *ended = 0;
-    if (finding) return finding;
+    if (refused) return refused;
     memcpy(&r.st, state, sizeof r.st);
     r.seed = state + ROV_SEED;
     r.page = page;
@@ -597,16 +598,17 @@ uint32_t plain_run(size_t W, size_t H, uint8_t *page, size_t page_n, const uint8
     r.lh = (uint32_t)H * DOT;
     r.ended = 0;
     if (allowance && has_item(&r) && !r.st.used) memset(page, 0, r.wide * H);
-    while (count < allowance && has_item(&r) && !finding && !r.ended) {
+    while (count < allowance && has_item(&r) && !told && !r.ended) {
         size_t began = r.at;
-        count += do_items(&r, allowance - count, &finding);
-        if (finding) *found = began;
+        count += do_items(&r, allowance - count, &told);
+        if (told) *found = began;
     }
     memcpy(state, &r.st, sizeof r.st);
     *place = r.at;
     *done = count;
+    *finding = told;
     *ended = (size_t)r.ended;
-    return finding;
+    return 0;
 }
 
 static uint32_t translation_refusal(size_t W, size_t H, size_t stream_n) {

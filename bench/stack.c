@@ -17,20 +17,20 @@ static ucontext_t caller, callee;
 /* What the call on the other stack works on; it takes no arguments of its own, and has nothing on that stack. */
 static const uint8_t *stream;
 static size_t stream_n, page_n = PAGE, room_n = sizeof room, place, done, found, ended, items, length;
-static uint32_t code, stopped; /* the last number, and the last that was not 0 */
+static uint32_t finding, stopped, refusal; /* of the last call; `stopped` is the last finding that there was */
 
 static void nothing(void) {}
 
 /* To the stream's end, resumed at each stop. */
 static void whole_run(void) {
     do {
-        code = rov_run(W, H, page, page_n, stream, stream_n, state, ROV_STATE, SIZE_MAX, &place, &done, &found, &ended);
-        if (code) stopped = code;
+        refusal = rov_run(W, H, page, page_n, stream, stream_n, state, ROV_STATE, SIZE_MAX, &place, &done, &finding, &found, &ended);
+        if (finding) stopped = finding;
         items += done;
-    } while (code < 10 && (code || ended));
+    } while (!refusal && (finding || ended));
 }
 
-static void translation(void) { code = rov_translate(W, H, stream, stream_n, room, room_n, &length); }
+static void translation(void) { refusal = rov_translate(W, H, stream, stream_n, room, room_n, &length); }
 
 static size_t depth_of(void (*function)(void)) {
     size_t low = 0;
@@ -106,15 +106,15 @@ static struct depths measured(const struct kind *k) {
     stream_n = k->n;
     place = items = stopped = 0;
     d.run = depth_of(whole_run) - none;
-    must(stopped == k->finding && (items > 0) == (stream_n > 0 && stopped < 10), k->name);
+    must(stopped == k->finding && refusal == (page_n ? 0 : 11) && (items > 0) == (stream_n > 0 && page_n > 0), k->name);
     d.translation = depth_of(translation) - none;
-    must(code == (room_n ? 0 : 15), k->name);
+    must(refusal == (room_n ? 0 : 15), k->name);
     printf("| %s | %zu | %zu |\n", k->name, d.run, d.translation);
     return d;
 }
 
 int main(void) {
-    static const struct kind refused = {"a page or a room that is too short", S("a"), 11};
+    static const struct kind refused = {"a page or a room that is too short", S("a"), 0};
     struct depths deepest = {0, 0}, d;
     puts("| Item | Run | Translation |\n|---|---|---|");
     for (size_t i = 0; i <= sizeof kinds / sizeof kinds[0]; i++) {

@@ -52,10 +52,12 @@ static size_t find_cuts(struct bytes b) {
     static uint8_t page[W / 8 * H];
     uint8_t state[ROV_STATE];
     size_t place = 0, count = 0, done, found, ended;
+    uint32_t finding;
     plain_afresh(W, H, state, ROV_STATE);
     while (place < b.n) {
         state[ROV_USED] = 1; /* no page is zeroed for an item */
-        if (plain_run(W, H, page, sizeof page, b.from, b.n, state, ROV_STATE, 1, &place, &done, &found, &ended) == 1) break;
+        plain_run(W, H, page, sizeof page, b.from, b.n, state, ROV_STATE, 1, &place, &done, &finding, &found, &ended);
+        if (finding == ROV_FINDING_ENDS_INSIDE) break;
         if (!state[ROV_FIRST]) cuts[++count] = place;
     }
     return count;

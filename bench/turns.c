@@ -14,14 +14,14 @@ static size_t items;
 
 static double time_of(size_t allowance) {
     size_t place = 0, done, found, ended;
-    uint32_t code;
+    uint32_t finding, refusal;
     double t = now();
     rov_afresh(W, H, state, ROV_STATE);
     items = 0;
     do {
-        code = rov_run(W, H, page, PAGE, stream, LENGTH, state, ROV_STATE, allowance, &place, &done, &found, &ended);
+        refusal = rov_run(W, H, page, PAGE, stream, LENGTH, state, ROV_STATE, allowance, &place, &done, &finding, &found, &ended);
         items += done;
-    } while (code < 10 && (code || ended || done == allowance));
+    } while (!refusal && (finding || ended || done == allowance));
     return now() - t;
 }
 

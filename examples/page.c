@@ -14,23 +14,29 @@ static uint8_t job[LONGEST_JOB + 1]; /* a byte more, so that a longer job is see
 static uint8_t page[LARGEST_PAGE];
 static uint8_t state[ROV_STATE];
 
-/* What rov_run gives, in words. */
-static const char *meaning(uint32_t code) {
-    switch (code) {
-    case ROV_NOTHING: return "nothing found";
-    case ROV_ENDS_INSIDE: return "the stream ends inside a sequence, or payload is short";
-    case ROV_CANNOT_STAND: return "a byte that can't stand there";
-    case ROV_NOT_CARRIED: return "command not carried";
-    case ROV_NOT_ALLOWED: return "value not allowed";
-    case ROV_STACK_LIMIT: return "push when full, or pop when empty";
-    case ROV_NOT_NOW: return "not allowed at this moment";
-    case ROV_DAMAGED_ROW: return "damaged row: it is drawn as a row of zeros";
-    case ROV_PAGE_MEASURE: return "page measure not allowed";
-    case ROV_PAGE_BUFFER: return "page buffer shorter than the page";
-    case ROV_STREAM_LENGTH: return "job longer than 1,048,576 bytes";
-    case ROV_UNSOUND_STATE: return "the state is not sound on this page";
-    case ROV_START_PLACE: return "start place after the end of the job";
-    default: return "a number this program does not know";
+/* A finding in words. A later version may give one that is not named here: it is some finding all the same. */
+static const char *found_in_words(uint32_t finding) {
+    switch (finding) {
+    case ROV_FINDING_ENDS_INSIDE: return "the stream ends inside a sequence, or payload is short";
+    case ROV_FINDING_CANNOT_STAND: return "a byte that can't stand there";
+    case ROV_FINDING_NOT_CARRIED: return "command not carried";
+    case ROV_FINDING_NOT_ALLOWED: return "value not allowed";
+    case ROV_FINDING_STACK_LIMIT: return "push when full, or pop when empty";
+    case ROV_FINDING_NOT_NOW: return "not allowed at this moment";
+    case ROV_FINDING_DAMAGED_ROW: return "damaged row: it is drawn as a row of zeros";
+    default: return "a finding this program does not know";
+    }
+}
+
+/* A refusal in words. */
+static const char *refused_in_words(uint32_t refusal) {
+    switch (refusal) {
+    case ROV_REFUSED_PAGE_MEASURE: return "page measure not allowed";
+    case ROV_REFUSED_PAGE_BUFFER: return "page buffer shorter than the page";
+    case ROV_REFUSED_STREAM_LENGTH: return "job longer than 1,048,576 bytes";
+    case ROV_REFUSED_UNSOUND_STATE: return "the state is not sound on this page";
+    case ROV_REFUSED_START_PLACE: return "start place after the end of the job";
+    default: return "for a reason this program does not know";
     }
 }
 
@@ -66,23 +72,23 @@ static int read_job(const char *name, size_t *n) {
     return good;
 }
 
-static int refused(uint32_t code) {
-    printf("refused %u: %s\n", (unsigned)code, meaning(code));
+static int refused(uint32_t refusal) {
+    printf("refused %u: %s\n", (unsigned)refusal, refused_in_words(refusal));
     return 2;
 }
 
 /* Runs the whole job, some items at a time, as a controller does that has other things to do in between. */
 static int run_job(size_t n, size_t W, size_t H, const char *picture) {
     size_t place = 0, done, found, ended, pages = 0;
-    uint32_t code = rov_afresh(W, H, state, sizeof state); /* once for each job; then the state goes from call to call */
-    if (code) return refused(code);
+    uint32_t finding, refusal = rov_afresh(W, H, state, sizeof state); /* once for each job; then the state goes from call to call */
+    if (refusal) return refused(refusal);
     do {
-        code = rov_run(W, H, page, sizeof page, job, n, state, sizeof state, ITEMS_AT_ONCE, &place, &done, &found, &ended);
-        if (code >= ROV_PAGE_MEASURE) return refused(code); /* nothing was done: page, state and place are as they were */
-        if (code) printf("place %zu: finding %u, %s\n", found, (unsigned)code, meaning(code)); /* `found` is where the item began */
+        refusal = rov_run(W, H, page, sizeof page, job, n, state, sizeof state, ITEMS_AT_ONCE, &place, &done, &finding, &found, &ended);
+        if (refusal) return refused(refusal); /* nothing was done: page, state and place are as they were */
+        if (finding) printf("place %zu: finding %u, %s\n", found, (unsigned)finding, found_in_words(finding)); /* `found` is where the item began */
         if (ended && !hand_over(++pages, picture, W, H)) return 1;
         /* A run stops early after a finding, a page end, or at the end of the job; only then is there nothing left. */
-    } while (code || ended || done == ITEMS_AT_ONCE);
+    } while (finding || ended || done == ITEMS_AT_ONCE);
     if (state[ROV_USED] && !hand_over(++pages, picture, W, H)) return 1; /* a job need not end its last page */
     printf("end: x %lu, y %lu, stack depth %lu\n", member(ROV_X, 4), member(ROV_Y, 4), member(ROV_DEPTH, 8));
     return 0;

@@ -31,7 +31,8 @@ static struct engine engine, kept;   /* `kept` stands for memory that outlasts a
 
 /* ---- a power cut */
 
-/* The state is kept with the place that it belongs to. A page that is not used need not be kept: the next item zeroes it. */
+/* The state is kept with the place that it belongs to. A page that is not used need not be kept: the next item zeroes it. A state's bytes are of
+ * one version of the library only: a controller that is given another drops what it kept, and starts the job again. */
 static void keep(void) {
     kept.place = engine.place;
     memcpy(kept.state, engine.state, ROV_STATE);
@@ -73,13 +74,15 @@ static void hand_over(struct outcome *out, bool aloud) {
  * with no finding and no page end, has come to the job's end. */
 static uint32_t turn(struct outcome *out, size_t items, bool aloud, bool *more) {
     size_t done, found, ended;
-    uint32_t code = rov_run(W, H, engine.page, sizeof engine.page, job, job_n, engine.state, ROV_STATE, items, &engine.place, &done, &found, &ended);
-    if (code >= ROV_PAGE_MEASURE) return code;
+    uint32_t finding, refusal;
+    refusal = rov_run(W, H, engine.page, sizeof engine.page, job, job_n, engine.state, ROV_STATE, items, &engine.place, &done, &finding, &found,
+                      &ended);
+    if (refusal) return refusal;
     out->turns++;
     out->items += done;
-    if (code) report_finding(out, code, found, aloud);
+    if (finding) report_finding(out, finding, found, aloud);
     if (ended) hand_over(out, aloud);
-    *more = code || ended || done == items;
+    *more = finding || ended || done == items;
     return 0;
 }
 
@@ -88,18 +91,18 @@ static uint32_t turn(struct outcome *out, size_t items, bool aloud, bool *more) 
 /* The job from its start, so many items to a turn, with a power cut behind each turn or without. A job need not end its last page. */
 static uint32_t run_job(struct outcome *out, size_t items, bool cuts) {
     bool more = true;
-    uint32_t code = rov_afresh(W, H, engine.state, ROV_STATE);
+    uint32_t refusal = rov_afresh(W, H, engine.state, ROV_STATE);
     engine.place = 0;
-    while (!code && more) {
-        code = turn(out, items, cuts, &more);
+    while (!refusal && more) {
+        refusal = turn(out, items, cuts, &more);
         if (!cuts) continue;
         keep();
         lose();
         restore();
     }
-    if (!code && engine.state[ROV_USED]) hand_over(out, cuts);
+    if (!refusal && engine.state[ROV_USED]) hand_over(out, cuts);
     add(out, engine.state, ROV_STATE);
-    return code;
+    return refusal;
 }
 
 /* A member of the state: little-endian, whatever the machine is. */
@@ -111,10 +114,10 @@ static unsigned long member(size_t at, size_t bytes) {
 
 static int both(size_t items) {
     struct outcome pieces = {0, 0, 0, 0, 0}, once = {0, 0, 0, 0, 0};
-    uint32_t code = run_job(&pieces, items, true);
+    uint32_t refusal = run_job(&pieces, items, true);
     bool same;
-    if (code) {
-        printf("refused %u\n", (unsigned)code);
+    if (refusal) {
+        printf("refused %u\n", (unsigned)refusal);
         return 2;
     }
     printf("end: x %lu, y %lu, stack depth %lu\n", member(ROV_X, 4), member(ROV_Y, 4), member(ROV_DEPTH, 8));

@@ -1,7 +1,7 @@
 /* Rovinuset for C and C++: reading PCL, drawing pages, passing a job on as a plain stream. The archive is target/librovinuset.a
  * (./rovinuset archive); docs/DOOR.md has the tables: memory, numbers, how to go on. The calls may be made with any numbers and any bytes.
  * Three things are the caller's: a slice is a pointer and a length, and has that many bytes (it may be empty, its pointer is then not
- * read); `place`, `done`, `found`, `ended` and `length` point to numbers; what is lent to one call does not overlap.
+ * read); `place`, `done`, `finding`, `found`, `ended` and `length` point to numbers; what is lent to one call does not overlap.
  * The library has no data of its own and allocates nothing: calls may run at the same time if no two share what one of them writes. */
 #ifndef ROVINUSET_H
 #define ROVINUSET_H
@@ -13,25 +13,34 @@
 extern "C" {
 #endif
 
-/* What a call gives: 0, a finding (1 to 7: the call was carried out and stopped behind it) or a refusal (from 10 on: nothing was done). */
+/* Findings and refusals are two tables of numbers: the same number may stand in both and mean two things. Later versions add to both: take a finding
+ * that is not named here as some finding, and a number given back that is not named here as refused. */
+
+/* What was found in the stream: *finding of rov_run. The run was carried out and stopped behind it. */
 enum {
-    ROV_NOTHING = 0,
-    ROV_ENDS_INSIDE = 1,    /* the stream ends inside a sequence, or payload is short */
-    ROV_CANNOT_STAND = 2,   /* a byte that can't stand there */
-    ROV_NOT_CARRIED = 3,    /* command not carried */
-    ROV_NOT_ALLOWED = 4,    /* value not allowed */
-    ROV_STACK_LIMIT = 5,    /* push when full, or pop when empty */
-    ROV_NOT_NOW = 6,        /* not allowed at this moment */
-    ROV_DAMAGED_ROW = 7,    /* damaged row: drawn as a row of zeros */
-    ROV_PAGE_MEASURE = 10,  /* W is a multiple of 8 from 8 to 4,800, H is 1 to 6,800: not so here */
-    ROV_PAGE_BUFFER = 11,   /* page buffer shorter than W/8 x H bytes */
-    ROV_STREAM_LENGTH = 12, /* stream longer than 1,048,576 bytes */
-    ROV_UNSOUND_STATE = 13, /* the bytes are no state that is sound on this page */
-    ROV_START_PLACE = 14,   /* start place after the end of the stream */
-    ROV_ROOM = 15           /* plain stream longer than the room, or than 1,048,576 bytes */
+    ROV_FINDING_NONE = 0,
+    ROV_FINDING_ENDS_INSIDE = 1,  /* the stream ends inside a sequence, or payload is short */
+    ROV_FINDING_CANNOT_STAND = 2, /* a byte that can't stand there */
+    ROV_FINDING_NOT_CARRIED = 3,  /* command not carried */
+    ROV_FINDING_NOT_ALLOWED = 4,  /* value not allowed */
+    ROV_FINDING_STACK_LIMIT = 5,  /* push when full, or pop when empty */
+    ROV_FINDING_NOT_NOW = 6,      /* not allowed at this moment */
+    ROV_FINDING_DAMAGED_ROW = 7   /* damaged row: drawn as a row of zeros */
 };
 
-/* A state between calls, in ROV_STATE bytes that the caller keeps. Numbers are little-endian. */
+/* What rov_afresh, rov_run and rov_translate give back. Refused: nothing was done. */
+enum {
+    ROV_CARRIED_OUT = 0,
+    ROV_REFUSED_PAGE_MEASURE = 10,  /* W is a multiple of 8 from 8 to 4,800, H is 1 to 6,800: not so here */
+    ROV_REFUSED_PAGE_BUFFER = 11,   /* page buffer shorter than W/8 x H bytes */
+    ROV_REFUSED_STREAM_LENGTH = 12, /* stream longer than 1,048,576 bytes */
+    ROV_REFUSED_UNSOUND_STATE = 13, /* the bytes are no state that is sound on this page */
+    ROV_REFUSED_START_PLACE = 14,   /* start place after the end of the stream */
+    ROV_REFUSED_ROOM = 15           /* plain stream longer than the room, or than 1,048,576 bytes */
+};
+
+/* A state between calls, in ROV_STATE bytes that the caller keeps. Numbers are little-endian. The bytes are of this version only, the one that
+ * the file VERSION names: another may lay them out otherwise. Keep no state across a change of version. */
 #define ROV_STATE 808
 enum {
     ROV_X = 0,            /* 4 bytes; lengths are in 1/7200 inch */
@@ -63,13 +72,14 @@ bool rov_sound(size_t W, size_t H, const uint8_t *state, size_t n);
 /* Dots set on a page, its W/8 x H bytes. 0 where the measure is not allowed or the buffer is shorter than the page. */
 size_t rov_dots(size_t W, size_t H, const uint8_t *page, size_t n);
 
-/* At most `allowance` items of the stream, from *place on, on the page. Gives 0, the finding after which it stopped (1 to 7), or the
- * refusal (10 to 14; 13 also where state_n < ROV_STATE, or the bytes of `started` or `used` are neither 0 nor 1).
- * Not refused: page and state are as after the items, *place is behind them, *done is how many were done, *found is the place
- * of the finding (0 if none), *ended is 1 if a page ended (it is in the buffer as it is to be handed over), else 0.
- * Refused: page, state and *place are as they were; *done, *found and *ended are 0. */
+/* At most `allowance` items of the stream, from *place on, on the page. Gives 0, or the refusal (10 to 14; 13 also where state_n < ROV_STATE, or
+ * the bytes of `started` or `used` are neither 0 nor 1).
+ * Not refused: page and state are as after the items, *place is behind them, *done is how many were done, *finding is the finding behind which it
+ * stopped (0 if none), *found is the finding's place (0 if none), *ended is 1 if a page ended (it is in the buffer as it is to be handed
+ * over), else 0.
+ * Refused: page, state and *place are as they were; *done, *finding, *found and *ended are 0. */
 uint32_t rov_run(size_t W, size_t H, uint8_t *page, size_t page_n, const uint8_t *stream, size_t stream_n,
-                 uint8_t *state, size_t state_n, size_t allowance, size_t *place, size_t *done, size_t *found, size_t *ended);
+                 uint8_t *state, size_t state_n, size_t allowance, size_t *place, size_t *done, uint32_t *finding, size_t *found, size_t *ended);
 
 /* The plain stream of a stream, written to the room; no page and no state is needed. Run by rov_run, it has the same pages as the stream,
  * no finding, and the same end state but for the row method, which is 0.

@@ -6,7 +6,7 @@
 
 enum { MOST_PAGE = 8000000, STACK = 20, SEED_ROW = 600 };
 
-enum { PAGE_ENDED = 8, REFUSED = 9 }; /* the findings come first; 10 is the first refusal */
+enum { PAGE_ENDED = FINDINGS, REFUSED, REFUSALS = 5, FIRST_REFUSAL = ROV_REFUSED_PAGE_MEASURE }; /* the findings come first, the refusals last */
 static const char *const outcomes[] = {
     "no finding", "finding 1", "finding 2", "finding 3", "finding 4", "finding 5", "finding 6", "finding 7", "page ended",
     "refused 10", "refused 11", "refused 12", "refused 13", "refused 14"};
@@ -24,11 +24,12 @@ struct numbers {
     uint64_t guard1;
     size_t done;
     uint64_t guard2;
+    uint32_t finding, guard3; /* side by side: a finding is written by four bytes */
     size_t found;
-    uint64_t guard3;
-    size_t ended;
     uint64_t guard4;
-    uint32_t code;
+    size_t ended;
+    uint64_t guard5;
+    uint32_t refusal;
 };
 
 static struct lent page, pieces_page, state, pieces_state;
@@ -110,14 +111,19 @@ static void lend(const struct case_line *c, struct lent *p, struct lent *s) {
 }
 
 static struct numbers start_at(size_t place) {
-    return (struct numbers){JUNK, place, JUNK, JUNK, JUNK, JUNK, JUNK, JUNK, JUNK, JUNK};
+    return (struct numbers){JUNK, place, JUNK, JUNK, JUNK, JUNK, JUNK, JUNK, JUNK, JUNK, JUNK, JUNK};
 }
 
 static void call(const struct case_line *c, struct lent *p, struct lent *s, size_t allowance, struct numbers *x) {
+    x->finding = JUNK;
     x->done = x->found = x->ended = JUNK;
-    x->code = rov_run(c->wide, c->high, p->bytes, p->n, stream.bytes, stream.n, s->bytes, s->n, allowance,
-                      &x->place, &x->done, &x->found, &x->ended);
-    if (x->guard0 != JUNK || x->guard1 != JUNK || x->guard2 != JUNK || x->guard3 != JUNK || x->guard4 != JUNK) blame("guards of the numbers");
+    x->refusal = rov_run(c->wide, c->high, p->bytes, p->n, stream.bytes, stream.n, s->bytes, s->n, allowance,
+                         &x->place, &x->done, &x->finding, &x->found, &x->ended);
+    if (x->guard0 != JUNK || x->guard1 != JUNK || x->guard2 != JUNK || x->guard3 != JUNK || x->guard4 != JUNK || x->guard5 != JUNK)
+        blame("guards of the numbers");
+    if (x->finding >= FINDINGS) blame("no number of a finding");
+    if (x->refusal && (x->refusal < FIRST_REFUSAL || x->refusal >= FIRST_REFUSAL + REFUSALS)) blame("no number of a refusal");
+    if (x->refusal && (x->done || x->finding || x->found || x->ended)) blame("a refused call gave items, a finding or a page");
     check_guards(p, "guards of the page");
     check_guards(s, "guards of the state");
 }
@@ -132,14 +138,14 @@ static void run_in_pieces(const struct case_line *c, const struct numbers *once)
         call(c, &pieces_page, &pieces_state, most, &x);
         done += x.done;
         left -= x.done;
-        if (x.code || x.ended || x.done < most || left == 0) break;
+        if (x.refusal || x.finding || x.ended || x.done < most || left == 0) break;
     }
-    if (x.code != once->code || x.place != once->place || x.found != once->found || x.ended != once->ended || done != once->done ||
+    if (x.refusal || x.finding != once->finding || x.place != once->place || x.found != once->found || x.ended != once->ended || done != once->done ||
         memcmp(pieces_state.bytes, state.bytes, ROV_STATE) || memcmp(pieces_page.bytes, page.bytes, page.n))
         blame("pieces differ");
 }
 
-/* A call that must be refused with this number: nothing lent may change, and the numbers come back as refused. */
+/* A call that must be refused with 13: nothing lent may change. */
 static void refused_call(const struct case_line *c, size_t at, uint8_t byte, size_t state_n, const char *what) {
     struct numbers x = start_at(c->place);
     uint8_t was[ROV_STATE];
@@ -148,7 +154,7 @@ static void refused_call(const struct case_line *c, size_t at, uint8_t byte, siz
     memcpy(was, pieces_state.bytes, ROV_STATE);
     if (state_n < ROV_STATE) set_length(&pieces_state, state_n);
     call(c, &pieces_page, &pieces_state, c->allowance, &x);
-    if (x.code != 13 || x.place != c->place || x.done || x.found || x.ended || memcmp(was, pieces_state.bytes, state_n)) blame(what);
+    if (x.refusal != 13 || x.place != c->place || memcmp(was, pieces_state.bytes, state_n)) blame(what);
     for (size_t i = 0; i < pieces_page.n; i++)
         if (pieces_page.bytes[i] != c->fill) blame(what);
 }
@@ -162,11 +168,11 @@ static void try_more(const struct case_line *c) {
 }
 
 /* rov_sound must say what refusal 13 says, also where 11 or 12 came before it: with a whole page and a stream of no bytes neither does. */
-static void check_sound(const struct case_line *c, uint32_t code) {
+static void check_sound(const struct case_line *c, uint32_t refusal) {
     struct numbers x = start_at(0);
     bool sound = rov_sound(c->wide, c->high, c->state, ROV_STATE);
     size_t n = stream.n;
-    if (code == 10) {
+    if (refusal == 10) {
         if (sound) blame("sound on a measure that is not allowed");
         return;
     }
@@ -175,7 +181,7 @@ static void check_sound(const struct case_line *c, uint32_t code) {
     stream.n = 0;
     call(c, &pieces_page, &pieces_state, 1, &x);
     stream.n = n;
-    if ((x.code == 13) == sound) blame("sound and refusal 13 differ");
+    if ((x.refusal == 13) == sound) blame("sound and refusal 13 differ");
 }
 
 /* ---- writing the result */
@@ -201,24 +207,23 @@ static void write_state(const uint8_t *s) {
 
 static void write_result(const struct case_line *c, const struct numbers *x) {
     size_t dots = rov_dots(c->wide, c->high, page.bytes, page.n);
-    bool refused = x->code >= 10;
-    if (refused && (x->found || x->ended)) blame("a refused call gave a place or a page");
-    if ((x->code == 10 || x->code == 11) && dots) blame("dots of no page");
+    if ((x->refusal == 10 || x->refusal == 11) && dots) blame("dots of no page");
     if (amiss) {
         printf("%zu %s\n", number, amiss);
         return;
     }
-    if (refused) printf("%zu refused %u %zu %zu", number, x->code, x->done, x->place);
-    else printf("%zu ran %zu %zu %u %zu %zu", number, x->done, x->place, x->code, x->found, x->ended);
+    if (x->refusal) printf("%zu refused %u %zu %zu", number, x->refusal, x->done, x->place);
+    else printf("%zu ran %zu %zu %u %zu %zu", number, x->done, x->place, x->finding, x->found, x->ended);
     write_state(state.bytes);
     printf(" %016llx", (unsigned long long)hash_of(page.bytes, page.n));
-    if (refused) putchar('\n');
+    if (x->refusal) putchar('\n');
     else printf(" %zu\n", dots);
 }
 
 static void count(const struct numbers *x) {
-    if (x->code <= 7) met[x->code]++;
-    if (x->code >= 10 && x->code <= 14) met[REFUSED + x->code - 10]++;
+    if (amiss) return;
+    if (x->refusal) met[REFUSED + x->refusal - FIRST_REFUSAL]++;
+    else met[x->finding]++;
     if (x->ended) met[PAGE_ENDED]++;
 }
 
@@ -230,9 +235,9 @@ static void one_case(char *line) {
     once = start_at(c.place);
     lend(&c, &page, &state);
     call(&c, &page, &state, c.allowance, &once);
-    if (once.code < 10) run_in_pieces(&c, &once);
-    check_sound(&c, once.code);
-    if (number % NOW_AND_THEN == 0 && (once.code < 10 || once.code >= 13)) try_more(&c);
+    if (!once.refusal) run_in_pieces(&c, &once);
+    check_sound(&c, once.refusal);
+    if (number % NOW_AND_THEN == 0 && (!once.refusal || once.refusal >= 13)) try_more(&c);
     check_stream();
     write_result(&c, &once);
     count(&once);

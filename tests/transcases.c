@@ -7,8 +7,8 @@
 
 enum { LONGEST = 1048576, MOST_ROOM = 8000000, MOST_LEARNT = 2 * LONGEST, MOST_PAGE = 4080000 };
 
-enum { /* behind findings 1 to 7 of the streams */
-    PLAIN_STREAM = 7, EMPTY, SHORTER, LONGER, FULL, ENDED, LAST, REFUSED_10, REFUSED_12, REFUSED_ROOM, REFUSED_LONGEST, BOTH_10_12,
+enum { /* behind the findings of the streams */
+    PLAIN_STREAM = FINDINGS - 1, EMPTY, SHORTER, LONGER, FULL, ENDED, LAST, REFUSED_10, REFUSED_12, REFUSED_ROOM, REFUSED_LONGEST, BOTH_10_12,
     BOTH_10_15, BOTH_12_15
 };
 static const char *const outcomes[] = {
@@ -34,7 +34,7 @@ struct numbers {
 struct job {
     const struct lent *stream;
     struct lent page, state;
-    size_t place, found[8];
+    size_t place, found[FINDINGS]; /* how often each was found */
 };
 
 static struct lent room, tried, known; /* known: the plain stream, once it is learnt */
@@ -106,14 +106,15 @@ static void start(struct job *j, const struct lent *from, const struct case_line
 /* To the next page end, over findings; false if the stream's end comes first. */
 static bool to_page_end(struct job *j, const struct case_line *c) {
     size_t done, found, ended = 0;
-    uint32_t code;
+    uint32_t finding, refusal;
     do {
-        code = rov_run(c->wide, c->high, j->page.bytes, j->page.n, j->stream->bytes, j->stream->n, j->state.bytes, ROV_STATE, SIZE_MAX,
-                       &j->place, &done, &found, &ended);
-        if (code < 8) j->found[code]++;
-    } while (code && code < 8 && !ended);
-    if (code >= 8) blame("a run was refused");
-    return code < 8 && ended;
+        refusal = rov_run(c->wide, c->high, j->page.bytes, j->page.n, j->stream->bytes, j->stream->n, j->state.bytes, ROV_STATE, SIZE_MAX,
+                          &j->place, &done, &finding, &found, &ended);
+        if (finding < FINDINGS) j->found[finding]++;
+        else blame("no number of a finding");
+    } while (finding && !ended);
+    if (refusal) blame("a run was refused");
+    return !refusal && ended;
 }
 
 static bool same_ends(void) {
@@ -134,7 +135,7 @@ static void run_both(const struct case_line *c) {
         met[ENDED] += ended;
     } while (ended && !amiss);
     met[LAST] += used;
-    for (size_t i = 1; i < 8; i++)
+    for (size_t i = 1; i < FINDINGS; i++)
         if (plain.found[i]) blame("the plain stream has a finding");
     if (!same_ends()) blame("the plain stream has another end state, or another method than 0");
 }
@@ -171,7 +172,7 @@ static void count_lengths(void) {
     met[SHORTER] += known.n < stream.n;
     met[LONGER] += known.n > stream.n;
     met[FULL] += known.n == LONGEST;
-    for (size_t i = 1; i < 8; i++) met[i - 1] += sent.found[i];
+    for (size_t i = 1; i < FINDINGS; i++) met[i - 1] += sent.found[i];
 }
 
 static void translated(const struct case_line *c, const struct numbers *x) {

@@ -25,7 +25,7 @@ use Rattle.rules.specs.declared.Translated.{Translated}
 use Rattle.theorems.specs.Statements.{RunPromise, TranslatePromise}
 use Rattle.theorems.specs.Facts.{Fits}
 use Rattle.state_load.specs.Kept.{stateAt, stateBytes}
-use Rattle.door.specs.Answers.{MadeAfresh, ranNumber, keptAfter, flagged, Answered, ToldPlain}
+use Rattle.door.specs.Answers.{MadeAfresh, keptAfter, flagged, Answered, ToldPlain}
 
 module _ (W H : ℕ) (x : Bool) (a : x ≡ allowed W H) where
   -- 10
@@ -65,28 +65,30 @@ module _ (W H : ℕ) (x : Bool) (a : x ≡ allowed W H) where
 
 module _ (r : Ran) (b : List ℕ) where
   -- a run that was carried out
-  pub back-carried : (n : ℕ) (after : List ℕ) → r .verdict ≡ Carried → n ≡ findingNumber (r .finding) → after ≡ sets b 0 (stateBytes (r .state)) → (n ≡ ranNumber r) × (after ≡ keptAfter r b)
-  back-carried n after f h k = (rw f h, rw f k)
+  pub back-carried : (after : List ℕ) → r .verdict ≡ Carried → after ≡ sets b 0 (stateBytes (r .state)) → after ≡ keptAfter r b
+  back-carried after f k = rw f k
 
   -- one that was refused
-  pub back-refused : (n : ℕ) (why : Refusal) → r .verdict ≡ Refused why → n ≡ refusalNumber why → (n ≡ ranNumber r) × (b ≡ keptAfter r b)
-  back-refused n why f h = (rw f h, rw f)
+  pub back-refused : (why : Refusal) → r .verdict ≡ Refused why → b ≡ keptAfter r b
+  back-refused why f = rw f
 
 -- a page has few bytes
 pub page-few : (g : Measure) → Fits g → (l : List ℕ) → length (take (g .high * g .wide - 0) l) ≤ 4294967296
 page-few g h l = rw (length-take, sub-zero) (omega (arith, mul-le-mul (h .high) (h .wide)))
 
 -- a run answered
-pub answered : (W H : ℕ) (page stream state : List ℕ) (allowance place n : ℕ) (page′ state′ : List ℕ) (ended : ℕ) (t : State) (r : Ran) → t ≡ stateAt state → RunPromise W H page stream t place allowance r page′
-    → ended ≡ flagged (r .ended) → (n ≡ ranNumber r) × (state′ ≡ keptAfter r state) → Answered W H page stream state allowance place n page′ state′ (r .place) (r .done) (r .found) ended
-answered W H page stream state allowance place n page′ state′ ended t r e h f k =
+pub answered : (W H : ℕ) (page stream state : List ℕ) (allowance place n : ℕ) (page′ state′ : List ℕ) (finding ended : ℕ) (t : State) (r : Ran) → t ≡ stateAt state → RunPromise W H page stream t place allowance r page′
+    → finding ≡ findingNumber (r .finding) → ended ≡ flagged (r .ended) → state′ ≡ keptAfter r state → n ≡ verdictNumber (r .verdict)
+    → Answered W H page stream state allowance place n page′ state′ (r .place) (r .done) finding (r .found) ended
+answered W H page stream state allowance place n page′ state′ finding ended t r e h i f k v =
     let g : r ≡ answer W H page stream (stateAt state) place allowance .ran = rw e at (h .given) in
     record {
-      number = k .0 ∙ ap ranNumber g;
+      number = v ∙ ap (λ (z : Ran). verdictNumber (z .verdict)) g;
       page-is = rw e at (h .lent);
-      state-is = k .1 ∙ ap (λ (z : Ran). keptAfter z state) g;
+      state-is = k ∙ ap (λ (z : Ran). keptAfter z state) g;
       place-is = ap (λ (z : Ran). z .place) g;
       done-is = ap (λ (z : Ran). z .done) g;
+      finding-is = i ∙ ap (λ (z : Ran). findingNumber (z .finding)) g;
       found-is = ap (λ (z : Ran). z .found) g;
       ended-is = f ∙ ap (λ (z : Ran). flagged (z .ended)) g;
     }

@@ -9,7 +9,6 @@ use lib.Seq.{sets}
 use Rattle.rules.specs.declared.Refusal.the-variants.{PageMeasure, UnsoundState}
 use Rattle.rules.specs.declared.Verdict.{Verdict}
 use Rattle.rules.specs.declared.Verdict.the-variants.{Carried, Refused}
-use Rattle.rules.specs.declared.Finding.{Finding}
 use Rattle.rules.specs.declared.State.{State}
 use Rattle.rules.specs.declared.Ran.{Ran}
 use Rattle.rules.specs.Measure.{allowed, measureOf}
@@ -32,14 +31,6 @@ pub record MadeAfresh (W H : ℕ) (before : List ℕ) (r : ℕ) (after : List �
   pub number : r ≡ afreshNumber W H before
   pub bytes : after ≡ afreshBytes W H before
 
--- a call's one number: the refusal's, or else the finding's
-abbrev pub numberOf : Verdict → Finding → ℕ
-numberOf Carried f = findingNumber f
-numberOf (Refused why) f = refusalNumber why
-
-abbrev pub ranNumber : Ran → ℕ
-ranNumber r = numberOf (r .verdict) (r .finding)
-
 -- the state's bytes behind a call: a refusal writes nothing
 abbrev pub bytesBehind : Verdict → State → List ℕ → List ℕ
 bytesBehind Carried t b = sets b 0 (stateBytes t)
@@ -51,13 +42,15 @@ keptAfter r b = bytesBehind (r .verdict) (r .state) b
 abbrev pub flagged : Bool → ℕ
 flagged t = cond t 1 0
 
--- a run answered: the outcome of the rules in the state that the bytes are read as
-pub record Answered (W H : ℕ) (page stream state : List ℕ) (allowance place n : ℕ) (page′ state′ : List ℕ) (place′ done found ended : ℕ) : Type 0 where
-  pub number : n ≡ ranNumber (answer W H page stream (stateAt state) place allowance .ran)
+-- a run answered: the outcome of the rules in the state that the bytes are read as. The refusal and the finding are two numbers; by the rules a refused
+-- run has no finding
+pub record Answered (W H : ℕ) (page stream state : List ℕ) (allowance place n : ℕ) (page′ state′ : List ℕ) (place′ done finding found ended : ℕ) : Type 0 where
+  pub number : n ≡ verdictNumber (answer W H page stream (stateAt state) place allowance .ran .verdict)
   pub page-is : page′ ≡ answer W H page stream (stateAt state) place allowance .page
   pub state-is : state′ ≡ keptAfter (answer W H page stream (stateAt state) place allowance .ran) state
   pub place-is : place′ ≡ answer W H page stream (stateAt state) place allowance .ran .place
   pub done-is : done ≡ answer W H page stream (stateAt state) place allowance .ran .done
+  pub finding-is : finding ≡ findingNumber (answer W H page stream (stateAt state) place allowance .ran .finding)
   pub found-is : found ≡ answer W H page stream (stateAt state) place allowance .ran .found
   pub ended-is : ended ≡ flagged (answer W H page stream (stateAt state) place allowance .ran .ended)
 

@@ -1,5 +1,6 @@
 // The library for C, include/rovinuset.h: states are kept by the caller as bytes, pages and streams are lent, answers are numbers.
 // Each function takes any numbers and any bytes; what cannot be carried out is refused by the paper's number and writes nothing.
+// A refusal is what a call gives back. A finding is told by a reference of its own: both tables grow, and one number could not say which is meant.
 ghost use mathlib.Core.Path.{_≡_};
 ghost use mathlib.Core.Bool.{cond, _&&_};
 ghost use lib.Dec.{leb};
@@ -9,7 +10,7 @@ ghost use Rattle.rules.specs.Measure.{allowed, measureOf, pageBytes};
 ghost use Rattle.rules.specs.Sound.{sound};
 ghost use Rattle.state_load.specs.Kept.{stateAt};
 ghost use Rattle.rules.specs.Findings.{verdictNumber};
-ghost use Rattle.door.specs.Answers.{MadeAfresh, ranNumber, keptAfter, flagged, Answered, ToldPlain};
+ghost use Rattle.door.specs.Answers.{MadeAfresh, keptAfter, flagged, Answered, ToldPlain};
 use number_finding::finding_number;
 use number_finding::refusal_number;
 use rules::Ran;
@@ -68,19 +69,27 @@ pub extern "C" fn rov_dots(w: usize, h: usize, page: &[u8]) -> usize
     dot_page::count(&page[0..n])
 }
 
-// What a run told, as one number; the state behind it is written back where it was carried out.
-fn give_back(r: Ran, state: &mut [u8]) -> u32
-    ensures { λ n. ⌜ (n ≡ ranNumber r) × (now (state .exit) ≡ keptAfter r (now (state .entry))) ⌝ }
+// A verdict's number, 0 where the call was carried out.
+fn verdict_number(v: Verdict) -> u32
+    ensures { λ r. ⌜ r ≡ verdictNumber v ⌝ }
+{
+    match v {
+        Verdict::Carried => 0,
+        Verdict::Refused(why) => refusal_number(why),
+    }
+}
+
+// The state behind a run, written back where it was carried out.
+fn give_back(r: Ran, state: &mut [u8])
+    ensures { λ _. ⌜ now (state .exit) ≡ keptAfter r (now (state .entry)) ⌝ }
 {
     let verdict = r.verdict;
     match verdict {
         Verdict::Carried => {
             let t = r.state;
-            let finding = r.finding;
             write_state(t, state);
-            finding_number(finding)
         }
-        Verdict::Refused(why) => refusal_number(why),
+        Verdict::Refused(_) => {}
     }
 }
 
@@ -103,29 +112,24 @@ pub extern "C" fn rov_run(
     allowance: usize,
     place: &mut usize,
     done: &mut usize,
+    finding: &mut u32,
     found: &mut usize,
     ended: &mut usize,
 ) -> u32
-    ensures { λ n. ⌜ Answered w h (now (page .entry)) (now (stream .entry)) (now (state .entry)) allowance (now (place .entry)) n (now (page .exit)) (now (state .exit)) (now (place .exit)) (now (done .exit)) (now (found .exit)) (now (ended .exit)) ⌝ }
+    ensures { λ n. ⌜ Answered w h (now (page .entry)) (now (stream .entry)) (now (state .entry)) allowance (now (place .entry)) n (now (page .exit)) (now (state .exit)) (now (place .exit)) (now (done .exit)) (now (finding .exit)) (now (found .exit)) (now (ended .exit)) ⌝ }
 {
     let t = read_state(state);
     let mut zeros: usize = 0;
     let r = run::run_and_zeros(page, w, h, stream, t, *place, allowance, &mut zeros);
     *place = r.place;
     *done = r.done;
+    let told = r.finding;
+    *finding = finding_number(told);
     *found = r.found;
     *ended = flag_of(r.ended);
-    give_back(r, state)
-}
-
-// A verdict's number, 0 where the call was carried out.
-fn verdict_number(v: Verdict) -> u32
-    ensures { λ r. ⌜ r ≡ verdictNumber v ⌝ }
-{
-    match v {
-        Verdict::Carried => 0,
-        Verdict::Refused(why) => refusal_number(why),
-    }
+    give_back(r, state);
+    let outcome = r.verdict;
+    verdict_number(outcome)
 }
 
 // The plain stream of the stream, written to the front of the room.

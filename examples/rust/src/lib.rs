@@ -23,6 +23,7 @@ mod door {
             allowance: usize,
             place: *mut usize,
             done: *mut usize,
+            finding: *mut u32,
             found: *mut usize,
             ended: *mut usize,
         ) -> u32;
@@ -38,47 +39,48 @@ mod door {
     }
 }
 
-/// What was found at a place of the stream. The item is taken and the run stopped behind it; it goes on if it is called again.
+/// What was found at a place of the stream, by its number. The item is taken and the run stopped behind it; it goes on if it is called again.
+/// Those of this version have names. A later one adds to them, so a `match` has an arm for some other finding.
 #[derive(Clone, Copy, Debug, PartialEq, Eq)]
-pub enum Finding {
-    EndsInside = 1,
-    CannotStand = 2,
-    NotCarried = 3,
-    NotAllowed = 4,
-    StackLimit = 5,
-    NotNow = 6,
-    DamagedRow = 7,
+pub struct Finding(u32);
+
+impl Finding {
+    pub const ENDS_INSIDE: Finding = Finding(1);
+    pub const CANNOT_STAND: Finding = Finding(2);
+    pub const NOT_CARRIED: Finding = Finding(3);
+    pub const NOT_ALLOWED: Finding = Finding(4);
+    pub const STACK_LIMIT: Finding = Finding(5);
+    pub const NOT_NOW: Finding = Finding(6);
+    pub const DAMAGED_ROW: Finding = Finding(7);
+
+    pub const fn number(self) -> u32 {
+        self.0
+    }
 }
 
-/// Why a call was refused. Nothing was done, and nothing that was lent was written.
+/// Why a call was refused, by its number; these are not the numbers of findings. Nothing was done, and nothing that was lent was written. A later
+/// version adds to the names.
 #[derive(Clone, Copy, Debug, PartialEq, Eq)]
-pub enum Refusal {
-    PageMeasure = 10,
-    PageBuffer = 11,
-    StreamLength = 12,
-    UnsoundState = 13,
-    StartPlace = 14,
-    Room = 15,
+pub struct Refusal(u32);
+
+impl Refusal {
+    pub const PAGE_MEASURE: Refusal = Refusal(10);
+    pub const PAGE_BUFFER: Refusal = Refusal(11);
+    pub const STREAM_LENGTH: Refusal = Refusal(12);
+    pub const UNSOUND_STATE: Refusal = Refusal(13);
+    pub const START_PLACE: Refusal = Refusal(14);
+    pub const ROOM: Refusal = Refusal(15);
+
+    pub const fn number(self) -> u32 {
+        self.0
+    }
 }
 
-/// A number of the library: it gives these and no others.
-fn told(number: u32) -> Result<Option<Finding>, Refusal> {
+/// What a call gives back: 0, or the refusal.
+fn carried_out(number: u32) -> Result<(), Refusal> {
     match number {
-        0 => Ok(None),
-        1 => Ok(Some(Finding::EndsInside)),
-        2 => Ok(Some(Finding::CannotStand)),
-        3 => Ok(Some(Finding::NotCarried)),
-        4 => Ok(Some(Finding::NotAllowed)),
-        5 => Ok(Some(Finding::StackLimit)),
-        6 => Ok(Some(Finding::NotNow)),
-        7 => Ok(Some(Finding::DamagedRow)),
-        10 => Err(Refusal::PageMeasure),
-        11 => Err(Refusal::PageBuffer),
-        12 => Err(Refusal::StreamLength),
-        13 => Err(Refusal::UnsoundState),
-        14 => Err(Refusal::StartPlace),
-        15 => Err(Refusal::Room),
-        _ => unreachable!("the library gives no other number"),
+        0 => Ok(()),
+        refusal => Err(Refusal(refusal)),
     }
 }
 
@@ -105,7 +107,8 @@ impl Measure {
         let mut length = 0;
         let number =
             unsafe { door::rov_translate(self.wide, self.high, stream.as_ptr(), stream.len(), room.as_mut_ptr(), room.len(), &mut length) };
-        told(number).map(|_| &mut room[..length])
+        carried_out(number)?;
+        Ok(&mut room[..length])
     }
 }
 
@@ -119,7 +122,8 @@ pub struct Ran {
     pub page_ended: bool,
 }
 
-/// A state between calls. It is its bytes: they may be stored and come back as they like, for a run refuses those that are no state.
+/// A state between calls. It is its bytes: they may be stored and come back as they like, for a run refuses those that are no state. They are of this
+/// version of the library only: keep none across a change of version.
 #[derive(Clone, Debug, PartialEq, Eq)]
 pub struct State(pub [u8; State::BYTES]);
 
@@ -130,7 +134,8 @@ impl State {
     pub fn afresh(page: Measure) -> Result<State, Refusal> {
         let mut bytes = [0; State::BYTES];
         let number = unsafe { door::rov_afresh(page.wide, page.high, bytes.as_mut_ptr(), bytes.len()) };
-        told(number).map(|_| State(bytes))
+        carried_out(number)?;
+        Ok(State(bytes))
     }
 
     pub fn is_sound(&self, page: Measure) -> bool {
@@ -139,7 +144,7 @@ impl State {
 
     /// At most `allowance` items of the stream, from `place` on; it is moved behind them.
     pub fn run(&mut self, measure: Measure, page: &mut [u8], stream: &[u8], place: &mut usize, allowance: usize) -> Result<Ran, Refusal> {
-        let (mut done, mut found, mut ended) = (0, 0, 0);
+        let (mut done, mut finding, mut found, mut ended) = (0, 0, 0, 0);
         let number = unsafe {
             door::rov_run(
                 measure.wide,
@@ -153,11 +158,14 @@ impl State {
                 allowance,
                 place,
                 &mut done,
+                &mut finding,
                 &mut found,
                 &mut ended,
             )
         };
-        told(number).map(|finding| Ran { done, finding: finding.map(|f| (f, found)), page_ended: ended == 1 })
+        carried_out(number)?;
+        let finding = (finding != 0).then_some((Finding(finding), found));
+        Ok(Ran { done, finding, page_ended: ended == 1 })
     }
 
     pub fn x(&self) -> u32 {

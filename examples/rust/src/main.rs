@@ -24,7 +24,7 @@ impl Outcome {
     fn report(&mut self, place: usize, finding: Finding) {
         self.findings.push((place, finding));
         if self.aloud {
-            println!("place {place}: finding {}", finding as u32);
+            println!("place {place}: finding {}", finding.number());
         }
     }
 
@@ -132,7 +132,7 @@ fn main() -> ExitCode {
     match asked().map(|(job, measure, items)| both(measure, &job, items)) {
         Ok(Ok(same)) => ExitCode::from(u8::from(!same)),
         Ok(Err(refusal)) => {
-            println!("refused {}", refusal as u32);
+            println!("refused {}", refusal.number());
             ExitCode::from(2)
         }
         Err(wrong) => {

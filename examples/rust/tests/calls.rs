@@ -38,17 +38,17 @@ fn a_page_ends() {
 #[test]
 fn each_finding_comes_with_its_place() {
     let cases: [(&[u8], Finding, u32, usize); 7] = [
-        (b"a\x1b&a12", Finding::EndsInside, 1, 1),
-        (b"a\x1b&a1c\n", Finding::CannotStand, 2, 6),
-        (b"ab\x1bZ", Finding::NotCarried, 3, 2),
-        (b"\x1b&l5D", Finding::NotAllowed, 4, 0),
-        (b"\x1b&f1S", Finding::StackLimit, 5, 0),
-        (b"\x1b*r0A\x1b*t75R", Finding::NotNow, 6, 5),
-        (b"\x1b*b2m1W\xFE", Finding::DamagedRow, 7, 5),
+        (b"a\x1b&a12", Finding::ENDS_INSIDE, 1, 1),
+        (b"a\x1b&a1c\n", Finding::CANNOT_STAND, 2, 6),
+        (b"ab\x1bZ", Finding::NOT_CARRIED, 3, 2),
+        (b"\x1b&l5D", Finding::NOT_ALLOWED, 4, 0),
+        (b"\x1b&f1S", Finding::STACK_LIMIT, 5, 0),
+        (b"\x1b*r0A\x1b*t75R", Finding::NOT_NOW, 6, 5),
+        (b"\x1b*b2m1W\xFE", Finding::DAMAGED_ROW, 7, 5),
     ];
     for (stream, finding, number, place) in cases {
         assert_eq!(run(stream).0.finding, Some((finding, place)));
-        assert_eq!(finding as u32, number);
+        assert_eq!(finding.number(), number);
     }
 }
 
@@ -65,16 +65,18 @@ fn each_refusal_has_its_number() {
     let state = State::afresh(PAGE).unwrap();
     let unsound = State([0xFF; State::BYTES]);
     let narrow = Measure { wide: 7, high: 800 };
-    let refusals = [
-        refused(narrow, PAGE_BYTES, b"a", &state, 0),
-        refused(PAGE, PAGE_BYTES - 1, b"a", &state, 0),
-        refused(PAGE, PAGE_BYTES, &vec![b'a'; 1_048_577], &state, 0),
-        refused(PAGE, PAGE_BYTES, b"a", &unsound, 0),
-        refused(PAGE, PAGE_BYTES, b"a", &state, 2),
-        PAGE.translate(b"ab", &mut [0; 1]).unwrap_err(),
+    let cases = [
+        (refused(narrow, PAGE_BYTES, b"a", &state, 0), Refusal::PAGE_MEASURE, 10),
+        (refused(PAGE, PAGE_BYTES - 1, b"a", &state, 0), Refusal::PAGE_BUFFER, 11),
+        (refused(PAGE, PAGE_BYTES, &vec![b'a'; 1_048_577], &state, 0), Refusal::STREAM_LENGTH, 12),
+        (refused(PAGE, PAGE_BYTES, b"a", &unsound, 0), Refusal::UNSOUND_STATE, 13),
+        (refused(PAGE, PAGE_BYTES, b"a", &state, 2), Refusal::START_PLACE, 14),
+        (PAGE.translate(b"ab", &mut [0; 1]).unwrap_err(), Refusal::ROOM, 15),
     ];
-    assert_eq!(refusals.map(|refusal| refusal as u32), [10, 11, 12, 13, 14, 15]);
-    assert_eq!(State::afresh(narrow), Err(Refusal::PageMeasure));
+    for (given, refusal, number) in cases {
+        assert_eq!((given, given.number()), (refusal, number));
+    }
+    assert_eq!(State::afresh(narrow), Err(Refusal::PAGE_MEASURE));
 }
 
 #[test]

@@ -10,33 +10,18 @@ enum-told c = search needs
 write-state-requires : tie.Need-write-state-requires
 write-state-requires c κs = search needs
 
-finding-number-requires : tie.Need-finding-number-requires
-finding-number-requires c κs = search needs
-
-enum-known-verdict : tie.Need-enum-known-verdict
-enum-known-verdict c = search needs
-
-refusal-number-requires : tie.Need-refusal-number-requires
-refusal-number-requires c κs = search needs
+enum-told-2 : tie.Need-enum-told-2
+enum-told-2 c = search needs
 
 same-length : tie.Need-same-length
 same-length c = search needs
 
 returns : tie.Need-returns
-returns c = back-carried (c .before .before .before .before .before .before .before .before .before .args .r) _ _ _ (c .before .before .before .before .before .before .enum-told .given .1) (c .finding-number .ensures) (c .before .before .before .write-state .ensures)
+returns c = search (back-carried, needs)
 
 returns-2 : tie.Need-returns-2
-returns-2 c = back-refused (c .before .before .before .before .before .args .r) _ _ _ (c .before .before .verdict .given .1) (c .refusal-number .ensures)
+returns-2 c = search (back-refused, needs)
 
 pub give-back-spec : {M : Type 1} → statement M
 give-back-spec =
-    tie.close
-    (tie.spec
-    enum-told
-    write-state-requires
-    finding-number-requires
-    enum-known-verdict
-    refusal-number-requires
-    same-length
-    returns
-    returns-2)
+    tie.close (tie.spec enum-told write-state-requires enum-told-2 same-length returns returns-2)

@@ -10,11 +10,17 @@ read-state-requires c κs = search needs
 run-and-zeros-requires : tie.Need-run-and-zeros-requires
 run-and-zeros-requires c κs = search needs
 
+finding-number-requires : tie.Need-finding-number-requires
+finding-number-requires c κs = search needs
+
 flag-of-requires : tie.Need-flag-of-requires
 flag-of-requires c κs = search needs
 
 give-back-requires : tie.Need-give-back-requires
 give-back-requires c κs = search needs
+
+verdict-number-requires : tie.Need-verdict-number-requires
+verdict-number-requires c κs = search needs
 
 same-length : tie.Need-same-length
 same-length c = search needs
@@ -31,8 +37,10 @@ rov-run-spec =
     (tie.spec
     read-state-requires
     run-and-zeros-requires
+    finding-number-requires
     flag-of-requires
     give-back-requires
+    verdict-number-requires
     same-length
     same-length-2
     returns)
