@@ -100,8 +100,7 @@ fn flag_of(t: bool) -> usize
     if t { 1 } else { 0 }
 }
 
-// At most `allowance` items of the stream, from *place on. The zeros that a run knows of are not told: by way of `run::run`, which drops them too, the
-// state would be copied once more.
+// At most `allowance` items of the stream, from *place on. The page is the caller's between calls, so none of its bytes are known to be zero.
 #[no_mangle]
 pub extern "C" fn rov_run(
     w: usize,
@@ -120,7 +119,7 @@ pub extern "C" fn rov_run(
 {
     let t = read_state(state);
     let mut zeros: usize = 0;
-    let r = run::run_and_zeros(page, w, h, stream, t, *place, allowance, &mut zeros);
+    let r = run::run(page, w, h, stream, t, *place, allowance, &mut zeros);
     *place = r.place;
     *done = r.done;
     let told = r.finding;

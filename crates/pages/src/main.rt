@@ -66,8 +66,20 @@ fn write_steps(page: &mut [u8], w: usize, h: usize, s: &[u8], head: &[u8], room:
     let mut place: usize = 0;
     let mut number: usize = 1;
     let mut findings: usize = 0;
+    let mut zeros: usize = 0;
     loop {
-        let r = pages_step::next(page, w, h, s, state, place, number, findings, room);
+        let r = pages_step::next(
+            page,
+            w,
+            h,
+            s,
+            state,
+            place,
+            number,
+            findings,
+            &mut zeros,
+            room,
+        );
         if !write_page(r.drawn, head, page) {
             return false;
         }
@@ -99,7 +111,7 @@ fn write_pages(w: usize, h: usize, s: &[u8], head: &[u8], room: &mut [u8]) -> bo
 
 // The first lines of a job, and its pages if it is not refused; whether all was written.
 fn write_job(w: usize, h: usize, s: &[u8]) -> bool {
-    let mut room = [0u8; 135];
+    let mut room = [0u8; 184];
     let first = pages_open::begin(w, h, s, &mut room);
     let end = first.end;
     if !io::write_all(STDERR_FILENO, &room[..end]) {

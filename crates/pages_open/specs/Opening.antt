@@ -25,9 +25,9 @@ pub record Holds (most : ℕ) (text before after : List ℕ) (r : ℕ) : Type 0 
 abbrev pub longestHead : ℕ
 longestHead = 45
 
--- the longest lines of a step, those of the last: PAGE (47) and END (88), all numbers of twenty digits
+-- the longest lines of a step: FAULT (48), MARK (89) and PAGE (47), all numbers of twenty digits
 abbrev pub longestLines : ℕ
-longestLines = 135
+longestLines = 184
 
 -- ---- pages
 -- the head of a page as PBM has it: P4, LF, the width, a space, the height, LF

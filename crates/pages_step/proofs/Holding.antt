@@ -10,14 +10,18 @@ use borrow.Author.Tests.{eq-eqb, ne-eqb}
 use Rattle.common.specs.Bits.{onesAll}
 use Rattle.common.specs.Stores.{Wrote}
 use Rattle.common.proofs.Choices.{choice}
+use Rattle.rules.specs.declared.Finding.{Finding}
 use Rattle.rules.specs.declared.State.{State}
 use Rattle.rules.specs.declared.Ran.{Ran}
 use Rattle.rules.specs.Findings.{findingNumber, isClean}
 use Rattle.rules.specs.Acts.{World, world}
 use Rattle.rules.specs.Report.{line, PAGE, END, lastLines}
 use Rattle.theorems.specs.Statements.{RunPromise}
-use Rattle.report_laws.specs.Left.{counted, printed}
-use Rattle.report_laws.proofs.Bound.{end-length}
+use Rattle.report_laws.specs.Left.{told, counted, printed}
+use Rattle.report_laws.proofs.Bound.{end-length, four-length}
+use Rattle.report_laws.proofs.Reporting.{wrote-told}
+use Rattle.pages_mark.specs.Marks.{MARK, marked}
+use Rattle.pages_mark.proofs.Marking.{marked-ahead}
 use Rattle.pages_open.specs.Opening.{longestLines}
 use Rattle.pages_open.proofs.Holding.{held, two-most}
 use Rattle.pages_step.specs.Steps.{isOver, isDrawn, stepLines, stepItems, Stepped}
@@ -35,11 +39,12 @@ last-most number w n =
     choice (λ (r : List ℕ). length r ≤ longestLines) (w .core .used) (omega (arith, page-most number (onesAll (w .page)) end)) (omega arith)
 
 -- the lines of a run
-printed-most : (number : ℕ) (o : Ran) (p : List ℕ) → length (printed number o p []) ≤ longestLines
+printed-most : (number : ℕ) (o : Ran) (p : List ℕ) → length (printed marked number o p []) ≤ longestLines
 printed-most number o p =
     let page : List ℕ = cond (o .ended) (line PAGE (number ∷ onesAll p ∷ []) []) [] in
     let e : length page ≤ 47 = choice (λ (l : List ℕ). length l ≤ 47) (o .ended) (omega (arith, page-most number (onesAll p) [])) (omega arith) in
-    let i = two-most (o .found) (findingNumber (o .finding)) page in
+    let m = four-length MARK (o .found) (findingNumber (o .finding)) (o .began .x) (o .began .y) page in
+    let i = two-most (o .found) (findingNumber (o .finding)) (line MARK (o .found ∷ findingNumber (o .finding) ∷ o .began .x ∷ o .began .y ∷ []) page) in
     choice (λ (l : List ℕ). length l ≤ longestLines) (isClean (o .finding)) (omega arith) (omega arith)
 
 -- the lines of a step
@@ -48,12 +53,17 @@ step-most number findings o p = choice (λ l. length l ≤ longestLines) (isOver
 
 -- ---- what is written
 -- the lines of a run, and of the end
-pub step-run : {l l' : List ℕ} {r : ℕ} (number findings : ℕ) (o : Ran) (p : List ℕ) → (o .done ≡ 0 → ⊥) → Wrote l 0 (printed number o p []) l' r → Wrote l 0 (stepLines number findings o p) l' r
+step-run : {l l' : List ℕ} {r : ℕ} (number findings : ℕ) (o : Ran) (p : List ℕ) → (o .done ≡ 0 → ⊥) → Wrote l 0 (printed marked number o p []) l' r → Wrote l 0 (stepLines number findings o p) l' r
 step-run number findings o p z w = rw (ne-eqb (o .done) 0 z) w
 
 pub step-end : {l l' : List ℕ} {r : ℕ} (number findings : ℕ) (o : Ran) (p : List ℕ) → o .done ≡ 0
     → Wrote l 0 (lastLines number (world (o .state .core) p []) findings) l' r → Wrote l 0 (stepLines number findings o p) l' r
 step-end number findings o p z w = rw (eq-eqb (o .done) 0 z) w
+
+-- the lines of a finding and its mark, and of a page
+pub step-told : {l l1 l2 : List ℕ} {a r : ℕ} (number findings : ℕ) (o : Ran) (p : List ℕ) (f : Finding) → (o .done ≡ 0 → ⊥) → f ≡ o .finding → Wrote l 0 (told marked (o .began) (o .found) f []) l1 a
+    → Wrote l1 a (cond (o .ended) (line PAGE (number ∷ onesAll p ∷ []) []) []) l2 r → Wrote l 0 (stepLines number findings o p) l2 r
+step-told number findings o p f z e v w = step-run number findings o p z (wrote-told marked marked-ahead number o p (rw e at v) w)
 
 -- a step
 pub stepped : {W H : ℕ} {page s : List ℕ} {t : State} {place number findings : ℕ} {room page′ room′ : List ℕ} {o : Ran} {end i j : ℕ} {drawn : Bool}

@@ -20,6 +20,8 @@ use Rattle.report_line.proofs.Texts.{line-append}
 use Rattle.report_laws.specs.Left.{drawn, linesLeft, counted, streamLines}
 use Rattle.report_laws.proofs.Items.{left-whole}
 use Rattle.report_laws.proofs.Reporting.{Going, going-start, going-less, going-again, call-ran, call-more, call-over, call-same, lines-again, lines-end}
+use Rattle.pages_mark.specs.Marks.{marked}
+use Rattle.pages_mark.proofs.Marking.{marked-ahead}
 use Rattle.pages_open.specs.Opening.{tooLong}
 use Rattle.pages_step.specs.Sheets.{pageSheets}
 use Rattle.pages_step.specs.Left.{pagesLeft}
@@ -31,7 +33,7 @@ module _ (W H : ℕ) (allow : allowed W H ≡ true) (s : List ℕ) (long : lengt
   -- the lines and the pages that are left
   abbrev rest : List ℕ → State → ℕ → ℕ → ℕ → Written
   rest page t place number findings =
-      written (linesLeft (measureOf W H) t (drop place s) place number (drawn (measureOf W H) t page) findings) (pagesLeft (measureOf W H) t (drop place s) (drawn (measureOf W H) t page))
+      written (linesLeft marked (measureOf W H) t (drop place s) place number (drawn (measureOf W H) t page) findings) (pagesLeft (measureOf W H) t (drop place s) (drawn (measureOf W H) t page))
 
   module _ {page : List ℕ} {t : State} {place number findings : ℕ} (inv : Going W H s page t place number findings) where
     abbrev O : Outcome
@@ -47,7 +49,7 @@ module _ (W H : ℕ) (allow : allowed W H ≡ true) (s : List ℕ) (long : lengt
     -- a step that is not the last writes the first of what is left
     step-more : (O .ran .done ≡ 0 → ⊥)
         → stepWrites number findings O (rest (O .page) (O .ran .state) (O .ran .place) (number + cond (O .ran .ended) 1 0) (findings + counted (O .ran .finding))) ≡ rest page t place number findings
-    step-more z = rw (ne-eqb (O .ran .done) 0 z) (λ j. written (sym (lines-again W H allow inv long 2097152 promise z) j)
+    step-more z = rw (ne-eqb (O .ran .done) 0 z) (λ j. written (sym (lines-again W H allow inv long 2097152 promise marked marked-ahead z) j)
         (sym (run-pages (measureOf W H) s 2097152 t place page O (call-more W H allow inv long 2097152 promise z) (call-ran W H allow inv long 2097152 promise)) j))
 
     -- the last step writes all that is left, whatever would follow
@@ -55,7 +57,7 @@ module _ (W H : ℕ) (allow : allowed W H ≡ true) (s : List ℕ) (long : lengt
     step-last z more = rw (eq-eqb (O .ran .done) 0 z) (λ j. written (lines j) (pages′ j))
       where
         lines : lastLines number (world (O .ran .state .core) (O .page) []) findings ++ [] ≡ rest page t place number findings .lines
-        lines = append-nil _ ∙ lines-end W H allow inv long 2097152 promise z
+        lines = append-nil _ ∙ lines-end W H allow inv long 2097152 promise marked z
 
         seen : (u : Bool) (a b : List ℕ) → cond u (a ∷ []) [] ≡ cond u (cond u a b ∷ []) []
         seen true a b = refl
@@ -97,12 +99,12 @@ module _ (W H : ℕ) (allow : allowed W H ≡ true) (s : List ℕ) (long : lengt
           ap (stepWrites number findings (O inv)) (i (O inv .page) (O inv .ran .state) (O inv .ran .place) _ _ (again inv (some inv e)) (let l = less inv (some inv e) in omega arith)) ∙ step-more inv (some inv e)
 
   -- from the start on they write the whole
-  job-steps : (page : List ℕ) → length page ≡ pageBytes (measureOf W H) → jobSteps W H s page ≡ written (streamLines (measureOf W H) s) (pageSheets (pages (measureOf W H) s))
+  job-steps : (page : List ℕ) → length page ≡ pageBytes (measureOf W H) → jobSteps W H s page ≡ written (streamLines marked (measureOf W H) s) (pageSheets (pages (measureOf W H) s))
   unfolding left afresh freshCore
   job-steps page e =
       ap (λ n. steps n W H s page (afresh (measureOf W H)) 0 1 0) (add-one (2 * length s))
       ∙ all-steps (2 * length s) page (afresh (measureOf W H)) 0 1 0 (going-start W H allow s page (afresh (measureOf W H)) e refl) (omega arith)
-      ∙ (λ j. written (left-whole (measureOf W H) s j) (pages-whole (measureOf W H) s j))
+      ∙ (λ j. written (left-whole marked (measureOf W H) s j) (pages-whole (measureOf W H) s j))
 
 -- the first lines and the steps together write the whole job
 pub steps-write-the-job : StepsWriteTheJob
@@ -113,4 +115,4 @@ steps-write-the-job W H s page e = go (allowed W H) refl (tooLong s) refl
     go true x true y = record { lines = rw (x, y) (append-nil _); pages = rw (x, y) }
     go true x false y =
         let k = job-steps W H x s (ltb-false longestStream (length s) y) page e in
-        record { lines = rw (x, y, k) (sym (line-append SIZE (W ∷ H ∷ []) [] (streamLines (measureOf W H) s))); pages = rw (x, y, k) }
+        record { lines = rw (x, y, k) (sym (line-append SIZE (W ∷ H ∷ []) [] (streamLines marked (measureOf W H) s))); pages = rw (x, y, k) }

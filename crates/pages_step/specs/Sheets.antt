@@ -11,6 +11,7 @@ use Rattle.rules.specs.Acts.{World}
 use Rattle.rules.specs.Run.{pages}
 use Rattle.rules.specs.Report.{line, SIZE}
 use Rattle.report_laws.specs.Left.{streamLines}
+use Rattle.pages_mark.specs.Marks.{marked}
 use Rattle.pages_open.specs.Opening.{pbmHead, tooLong, isRefused, refusedLine}
 
 -- ---- pages
@@ -32,10 +33,11 @@ pageSheets w = w .handed ++ cond (w .core .used) (w .page ∷ []) []
 abbrev pub jobPages : ℕ → ℕ → List ℕ → List ℕ
 jobPages W H s = cond (isRefused W H s) [] (pbms W H (pageSheets (pages (measureOf W H) s)))
 
--- the lines of standard error: "SIZE, W, H; in item order FAULT .., and PAGE ..; a used last page too; then END", as the report has them
+-- the lines of standard error: "SIZE, W, H; in item order FAULT .., and PAGE ..; a used last page too; then END", as the report has them, with MARK behind
+-- each FAULT
 abbrev pub jobLines : ℕ → ℕ → List ℕ → List ℕ
 jobLines W H s =
-    let drawn = cond (tooLong s) (refusedLine StreamLength) (streamLines (measureOf W H) s) in
+    let drawn = cond (tooLong s) (refusedLine StreamLength) (streamLines marked (measureOf W H) s) in
     line SIZE (W ∷ H ∷ []) (cond (not (allowed W H)) (refusedLine PageMeasure) drawn)
 
 -- ---- a reader of PBM finds each page where the one before ends: all have H rows of W/8 bytes

@@ -14,6 +14,7 @@ use Rattle.rules.specs.Run.{Outcome, answer, enough}
 use Rattle.rules.specs.Report.{lastLines}
 use Rattle.report_laws.specs.Left.{counted, printed}
 use Rattle.pages_step.specs.declared.Sheet.{Sheet}
+use Rattle.pages_mark.specs.Marks.{marked}
 use Rattle.pages_open.specs.Opening.{Holds, longestLines, firstLines, isRefused}
 use Rattle.pages_step.specs.Sheets.{pbms, jobPages, jobLines}
 
@@ -31,7 +32,7 @@ isDrawn o = cond (isOver o) (o .state .core .used) (o .ended)
 
 -- the lines of a run that left the page p, or the last ones where nothing was left to do
 abbrev pub stepLines : ℕ → ℕ → Ran → List ℕ → List ℕ
-stepLines number findings o p = cond (isOver o) (lastLines number (world (o .state .core) p []) findings) (printed number o p [])
+stepLines number findings o p = cond (isOver o) (lastLines number (world (o .state .core) p []) findings) (printed marked number o p [])
 
 abbrev pub sheetOf : ℕ → ℕ → Ran → ℕ → Sheet
 sheetOf number findings o end = record {

@@ -6,10 +6,11 @@ ghost use lib.ListN.{length};
 ghost use Rattle.common.specs.Stores.{Wrote};
 ghost use Rattle.dot_page.specs.Zeros.{FirstZero};
 ghost use Rattle.pages_step.specs.Steps.{Stepped, isDrawn, stepLines};
+use pages_mark::write_marked;
 use report_page::write_last;
+use report_page::write_page_if;
 use report_run::count_of;
 use report_run::one_if;
-use report_run::write_ran;
 use rules::Ran;
 use rules::State;
 
@@ -55,11 +56,15 @@ fn write_lines(
         let core = t.core;
         return write_last(number, core, page, findings, room, 0);
     }
-    write_ran(o, number, page, zeros, room, 0)
+    let f = o.finding;
+    let began = o.began;
+    let behind = write_marked(o.found, f, began, room, 0);
+    write_page_if(o.ended, number, page, zeros, room, behind)
 }
 
-// One step of the job s: a run from the place on, on the page that is lent, and its lines at the front of the room. A page of at most
-// 2^32 bytes is asked for, so that its dots can be counted, and numbers that can be counted on.
+// One step of the job s: a run from the place on, on the page that is lent, and its lines at the front of the room. `zeros` is how many bytes of the page are
+// known to be zero, before the step and behind it. A page of at most 2^32 bytes is asked for, so that its dots can be counted, and numbers that can be
+// counted on.
 pub fn next(
     page: &mut [u8],
     w: usize,
@@ -69,14 +74,14 @@ pub fn next(
     place: usize,
     number: usize,
     findings: usize,
+    zeros: &mut usize,
     room: &mut [u8],
 ) -> Sheet
-    requires { ⌜ (length (now page) ≤ 4294967296) × (number ≤ 4294967296) × (findings ≤ 4294967296) ⌝ }
-    ensures { λ r. ⌜ Stepped w h (now (page .entry)) (now (s .entry)) t place number findings (now (room .entry)) r (now (page .exit)) (now (room .exit)) ⌝ }
+    requires { ⌜ (length (now page) ≤ 4294967296) × (number ≤ 4294967296) × (findings ≤ 4294967296) × FirstZero (now zeros) (now page) ⌝ }
+    ensures { λ r. ⌜ Stepped w h (now (page .entry)) (now (s .entry)) t place number findings (now (room .entry)) r (now (page .exit)) (now (room .exit)) × FirstZero (now (zeros .exit)) (now (page .exit)) ⌝ }
 {
-    let mut zeros: usize = 0;
-    let o = run::run_and_zeros(page, w, h, s, t, place, ALLOWANCE, &mut zeros);
-    let end = write_lines(o, number, findings, page, zeros, room);
+    let o = run::run(page, w, h, s, t, place, ALLOWANCE, zeros);
+    let end = write_lines(o, number, findings, page, *zeros, room);
     let drawn = is_drawn(o);
     let next_number = number + one_if(o.ended);
     let f = o.finding;

@@ -13,7 +13,7 @@ use Rattle.rules.specs.Report.{line, FAULT, fault}
 use Rattle.report_line.proofs.Pieces.{wrote-nothing}
 
 -- the number 0 is that of no finding
-number-clean : (f : Finding) → findingNumber f ≡ 0 → isClean f ≡ true
+pub number-clean : (f : Finding) → findingNumber f ≡ 0 → isClean f ≡ true
 number-clean Nothing e = refl
 number-clean EndsInside e = absurd (omega arith)
 number-clean CannotStand e = absurd (omega arith)
@@ -24,7 +24,7 @@ number-clean NotNow e = absurd (omega arith)
 number-clean DamagedRow e = absurd (omega arith)
 
 -- any other number is that of a finding
-number-found : (f : Finding) → (findingNumber f ≡ 0 → ⊥) → isClean f ≡ false
+pub number-found : (f : Finding) → (findingNumber f ≡ 0 → ⊥) → isClean f ≡ false
 number-found Nothing e = absurd (e refl)
 number-found EndsInside e = refl
 number-found CannotStand e = refl

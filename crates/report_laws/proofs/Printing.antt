@@ -14,25 +14,26 @@ use Rattle.common.proofs.Choices.{choice-by}
 use Rattle.rules.specs.declared.Measure.{Measure}
 use Rattle.rules.specs.declared.Finding.{Finding}
 use Rattle.rules.specs.declared.Verdict.the-variants.{Carried}
+use Rattle.rules.specs.declared.Spot.{Spot}
 use Rattle.rules.specs.declared.State.{State}
-use Rattle.rules.specs.Measure.{blank}
+use Rattle.rules.specs.Measure.{blank, origin}
 use Rattle.rules.specs.Findings.{isClean, findingNumber}
 use Rattle.rules.specs.Acts.{World, world, showAll, Step, step, over}
-use Rattle.rules.specs.Run.{Outcome, outcome, halted, pageOf, placeOf, runFrom, readied, run}
-use Rattle.rules.specs.Report.{line, FAULT, PAGE, fault, pageLines}
+use Rattle.rules.specs.Run.{Outcome, outcome, halted, pageOf, placeOf, spotOf, runFrom, readied, run}
+use Rattle.rules.specs.Report.{line, PAGE, pageLines}
 use Rattle.theorems.proofs.Reading.{left}
 use Rattle.theorems.proofs.Streams.{step-left}
 use Rattle.theorems.proofs.Suffixes.{step-rest, step-took}
 use Rattle.theorems.proofs.Pages.{Blank, showAll-blank, step-single, item-unused}
 use Rattle.theorems.proofs.Runs.{does-one}
-use Rattle.report_laws.specs.Left.{drawn, linesLeft, counted, printed}
+use Rattle.report_laws.specs.Left.{Saying, told, drawn, linesLeft, counted, printed}
 use Rattle.report_laws.proofs.Items.{core-next, core-is, left-step, turned}
 
--- a finding's line has the place of its item
-fault-place : (at : ℕ) (f : Finding) (s : List ℕ) → fault at f s ≡ fault (placeOf f at) f s
-fault-place at f s = go (isClean f)
+-- what is said of a finding has the place of its item, and where that began
+told-place : (say : Saying) (began : Spot) (at : ℕ) (f : Finding) (s : List ℕ) → told say began at f s ≡ told say (spotOf f began) (placeOf f at) f s
+told-place say began at f s = go (isClean f)
   where
-    go : (b : Bool) → cond b s (line FAULT (at ∷ findingNumber f ∷ []) s) ≡ cond b s (line FAULT (cond b 0 at ∷ findingNumber f ∷ []) s)
+    go : (b : Bool) → cond b s (say began at (findingNumber f) s) ≡ cond b s (say (cond b origin began) (cond b 0 at) (findingNumber f) s)
     go true = refl
     go false = refl
 
@@ -41,16 +42,16 @@ module _ (g : Measure) where
   pub drawn-is : (t : State) (p : List ℕ) → Blank g (world (t .core) p []) → p ≡ drawn g t p
   drawn-is t p h = choice-by (λ q. p ≡ q) (t .core .used) (λ e. refl) h
 
-  module _ (stream : List ℕ) where
+  module _ (say : Saying) (stream : List ℕ) where
     -- the lines that are left where an outcome leaves off
     abbrev pub behind : ℕ → ℕ → Outcome → List ℕ
     behind number n o =
-        linesLeft g (o .ran .state) (drop (o .ran .place) stream) (o .ran .place) (number + cond (o .ran .ended) 1 0) (drawn g (o .ran .state) (o .page))
+        linesLeft say g (o .ran .state) (drop (o .ran .place) stream) (o .ran .place) (number + cond (o .ran .ended) 1 0) (drawn g (o .ran .state) (o .page))
         (n + counted (o .ran .finding))
 
     -- what an outcome prints of the lines that were left, and how much less is left to read
     pub record Prints (t : State) (s : List ℕ) (at done number : ℕ) (p : List ℕ) (n : ℕ) (o : Outcome) : Type 0 where
-      pub lines : linesLeft g t s at number p n ≡ printed number (o .ran) (o .page) (behind number n o)
+      pub lines : linesLeft say g t s at number p n ≡ printed say number (o .ran) (o .page) (behind number n o)
       pub less : left (o .ran .state .sequence) (drop (o .ran .place) stream) + o .ran .done ≤ left (t .sequence) s + done
       pub inside : o .ran .place ≤ length stream
 
@@ -94,21 +95,21 @@ module _ (g : Measure) where
 
         -- the lines behind the item
         abbrev rest : List (List ℕ) → List ℕ
-        rest ds = linesLeft g (S .state) (drop at′ stream) at′ (number + cond (not (isNil ds)) 1 0) (drawn g (S .state) (pageOf ds (W .page))) (n + counted (S .done .finding))
+        rest ds = linesLeft say g (S .state) (drop at′ stream) at′ (number + cond (not (isNil ds)) 1 0) (drawn g (S .state) (pageOf ds (W .page))) (n + counted (S .done .finding))
 
         -- the lines are the item's finding, the page that it ended, and those behind it
         paged : (ds : List (List ℕ)) → W .handed ≡ ds
-            → linesLeft g t s at number p n
-            ≡ fault at (S .done .finding) (cond (not (isNil ds)) (line PAGE (number ∷ onesAll (pageOf ds (W .page)) ∷ []) (rest ds)) (rest ds))
+            → linesLeft say g t s at number p n
+            ≡ told say (t .core .at) at (S .done .finding) (cond (not (isNil ds)) (line PAGE (number ∷ onesAll (pageOf ds (W .page)) ∷ []) (rest ds)) (rest ds))
         unfolding pageLines
-        paged [] q = left-step g t s e at number p n (W .page) [] (turned g t s e p [] q) ∙ rw (there, ← page-behind [] q)
-        paged (d ∷ ds) q = left-step g t s e at number p n (blank g) (d ∷ []) (turned g t s e p (d ∷ ds) q) ∙ rw (there, ← page-behind (d ∷ ds) q)
+        paged [] q = left-step g t s e say at number p n (W .page) [] (turned g t s e p [] q) ∙ rw (there, ← page-behind [] q)
+        paged (d ∷ ds) q = left-step g t s e say at number p n (blank g) (d ∷ []) (turned g t s e p (d ∷ ds) q) ∙ rw (there, ← page-behind (d ∷ ds) q)
 
         -- the run stops behind the item
         stop-prints : (ds : List (List ℕ)) → W .handed ≡ ds
-            → Prints t s at done number p n (outcome Carried (S .state) at′ (S .done .finding) (placeOf (S .done .finding) at) (not (isNil ds)) (done + 1) (pageOf ds (W .page)))
+            → Prints t s at done number p n (outcome Carried (S .state) at′ (S .done .finding) (placeOf (S .done .finding) at) (spotOf (S .done .finding) (t .core .at)) (not (isNil ds)) (done + 1) (pageOf ds (W .page)))
         stop-prints ds q = record {
-          lines = paged ds q ∙ fault-place at (S .done .finding) _;
+          lines = paged ds q ∙ told-place say (t .core .at) at (S .done .finding) _;
           less = rw (← there) (let l = step-left g t s e in omega arith);
           inside = there-low;
         }
@@ -124,7 +125,7 @@ module _ (g : Measure) where
 
         -- one or the other
         turn-prints : (c : Bool) (ds : List (List ℕ)) (o : Outcome) → isClean (S .done .finding) ≡ c → W .handed ≡ ds → Prints (S .state) (S .rest) at′ (done + 1) number (W .page) n o
-            → Prints t s at done number p n (cond (c && isNil ds) o (outcome Carried (S .state) at′ (S .done .finding) (placeOf (S .done .finding) at) (not (isNil ds)) (done + 1) (pageOf ds (W .page))))
+            → Prints t s at done number p n (cond (c && isNil ds) o (outcome Carried (S .state) at′ (S .done .finding) (placeOf (S .done .finding) at) (spotOf (S .done .finding) (t .core .at)) (not (isNil ds)) (done + 1) (pageOf ds (W .page))))
         turn-prints true [] o k q f = more-prints o k q f
         turn-prints false [] o k q f = stop-prints [] q
         turn-prints true (d ∷ ds) o k q f = stop-prints (d ∷ ds) q
@@ -140,6 +141,7 @@ module _ (g : Measure) where
         (prints k (step g t s .state) (step g t s .rest) (at + step g t s .done .took) (done + 1) number (showAll g (step g t s .done .acts) (world (t .core) p []) .page) n
         (there t s at done number p n here low b e) (there-low t s at done number p n here low b e) (still-blank t s at done number p n here low b e)))
 
+  module _ (stream : List ℕ) where
     module _ (k : ℕ) (t : State) (at : ℕ) (buffer : List ℕ) where
       -- a run with items to do begins with the page that is being drawn, whatever the buffer holds
       pub run-readied : over t (drop at stream) ≡ false → run g (suc k) t at buffer stream ≡ runFrom g (suc k) 0 at t (drawn g t buffer) (drop at stream)
@@ -155,9 +157,9 @@ module _ (g : Measure) where
       drawn-blank u = rw u
 
       -- it prints what is its to print
-      pub run-prints : (number n : ℕ) → at ≤ length stream → over t (drop at stream) ≡ false
-          → Prints t (drop at stream) at 0 number (drawn g t buffer) n (run g (suc k) t at buffer stream)
-      run-prints number n low e = rw (run-readied e) (prints (suc k) t (drop at stream) at 0 number (drawn g t buffer) n refl low drawn-blank)
+      pub run-prints : (say : Saying) (number n : ℕ) → at ≤ length stream → over t (drop at stream) ≡ false
+          → Prints say stream t (drop at stream) at 0 number (drawn g t buffer) n (run g (suc k) t at buffer stream)
+      run-prints say number n low e = rw (run-readied e) (prints say stream (suc k) t (drop at stream) at 0 number (drawn g t buffer) n refl low drawn-blank)
 
       -- a run with nothing to do leaves all as it is
       pub run-over : over t (drop at stream) ≡ true → run g (suc k) t at buffer stream ≡ halted t at 0 buffer

@@ -11,6 +11,7 @@ use Rattle.common.specs.Stores.{Wrote}
 use Rattle.common.proofs.Stores.{wrote-both}
 use Rattle.rules.specs.declared.Measure.{Measure}
 use Rattle.rules.specs.declared.Finding.{Finding}
+use Rattle.rules.specs.declared.Spot.{Spot}
 use Rattle.rules.specs.declared.State.{State}
 use Rattle.rules.specs.declared.Ran.{Ran}
 use Rattle.rules.specs.Measure.{allowed, measureOf, blank, longestStream}
@@ -28,32 +29,45 @@ use Rattle.theorems.proofs.Lengths.{fresh-shaped}
 use Rattle.theorems.proofs.Runs.{run-shaped}
 use Rattle.theorems.proofs.Theorems.{afresh-is-sound}
 use Rattle.report_line.proofs.Texts.{line-append, cond-append}
-use Rattle.report_laws.specs.Left.{drawn, linesLeft, counted, printed, streamLines}
+use Rattle.report_laws.specs.Left.{Saying, plainly, told, drawn, linesLeft, counted, printed, streamLines}
 use Rattle.report_laws.proofs.Items.{left-whole, left-over}
 use Rattle.report_laws.proofs.Printing.{behind, Prints, run-prints, run-over, run-nothing}
 use Rattle.report_laws.proofs.Calls.{carried, run-kept}
 
 -- ---- texts
--- a finding's line in front of s and t
-fault-append : (at : ℕ) (f : Finding) (s t : List ℕ) → fault at f (s ++ t) ≡ fault at f s ++ t
-fault-append at f s t = ap (cond (isClean f) (s ++ t)) (line-append FAULT (at ∷ findingNumber f ∷ []) s t) ∙ go (isClean f) (line FAULT (at ∷ findingNumber f ∷ []) s)
-  where
-    go : (b : Bool) (a : List ℕ) → cond b (s ++ t) (a ++ t) ≡ cond b s a ++ t
-    go true a = refl
-    go false a = refl
+-- what is said of a finding stands in front of what follows, and does not depend on it
+abbrev pub Ahead : Saying → Type 0
+Ahead say = (began : Spot) (at n : ℕ) (s t : List ℕ) → say began at n (s ++ t) ≡ say began at n s ++ t
 
--- what a run prints in front of s: its lines, and then s
-printed-append : (number : ℕ) (o : Ran) (p s : List ℕ) → printed number o p s ≡ printed number o p [] ++ s
-printed-append number o p s =
-    let page : List ℕ = line PAGE (number ∷ onesAll p ∷ []) [] in
-    ap (λ r. fault (o .found) (o .finding) (cond (o .ended) r s)) (line-append PAGE (number ∷ onesAll p ∷ []) [] s)
-    ∙ ap (fault (o .found) (o .finding)) (cond-append (o .ended) page s)
-    ∙ fault-append (o .found) (o .finding) (cond (o .ended) page []) s
+pub plainly-ahead : Ahead plainly
+plainly-ahead began at n s t = line-append FAULT (at ∷ n ∷ []) s t
 
--- they are written one behind the other
+module _ (say : Saying) (ahead : Ahead say) where
+  -- a finding in front of s and t
+  told-append : (began : Spot) (at : ℕ) (f : Finding) (s t : List ℕ) → told say began at f (s ++ t) ≡ told say began at f s ++ t
+  told-append began at f s t = ap (cond (isClean f) (s ++ t)) (ahead began at (findingNumber f) s t) ∙ go (isClean f) (say began at (findingNumber f) s)
+    where
+      go : (b : Bool) (a : List ℕ) → cond b (s ++ t) (a ++ t) ≡ cond b s a ++ t
+      go true a = refl
+      go false a = refl
+
+  -- what a run prints in front of s: its lines, and then s
+  printed-append : (number : ℕ) (o : Ran) (p s : List ℕ) → printed say number o p s ≡ printed say number o p [] ++ s
+  printed-append number o p s =
+      let page : List ℕ = line PAGE (number ∷ onesAll p ∷ []) [] in
+      ap (λ r. told say (o .began) (o .found) (o .finding) (cond (o .ended) r s)) (line-append PAGE (number ∷ onesAll p ∷ []) [] s)
+      ∙ ap (told say (o .began) (o .found) (o .finding)) (cond-append (o .ended) page s)
+      ∙ told-append (o .began) (o .found) (o .finding) (cond (o .ended) page []) s
+
+  -- they are written one behind the other
+  pub wrote-told : {l l1 l2 : List ℕ} {at a r : ℕ} (number : ℕ) (o : Ran) (p : List ℕ) → Wrote l at (told say (o .began) (o .found) (o .finding) []) l1 a
+      → Wrote l1 a (cond (o .ended) (line PAGE (number ∷ onesAll p ∷ []) []) []) l2 r → Wrote l at (printed say number o p []) l2 r
+  wrote-told number o p v w = rw (told-append (o .began) (o .found) (o .finding) [] (cond (o .ended) (line PAGE (number ∷ onesAll p ∷ []) []) [])) (wrote-both v w)
+
+-- those of the report
 pub wrote-ran : {l l1 l2 : List ℕ} {at a r : ℕ} (number : ℕ) (o : Ran) (p : List ℕ) (f : Finding) → f ≡ o .finding → Wrote l at (fault (o .found) f []) l1 a
-    → Wrote l1 a (cond (o .ended) (line PAGE (number ∷ onesAll p ∷ []) []) []) l2 r → Wrote l at (printed number o p []) l2 r
-wrote-ran number o p f e v w = rw (← e) (rw (fault-append (o .found) f [] (cond (o .ended) (line PAGE (number ∷ onesAll p ∷ []) []) [])) (wrote-both v w))
+    → Wrote l1 a (cond (o .ended) (line PAGE (number ∷ onesAll p ∷ []) []) []) l2 r → Wrote l at (printed plainly number o p []) l2 r
+wrote-ran number o p f e v w = wrote-told plainly plainly-ahead number o p (rw e at v) w
 
 -- the report's page is allowed
 pub page-allowed : allowed reportWidth reportHeight ≡ true
@@ -81,8 +95,8 @@ pub record Going (W H : ℕ) (s page : List ℕ) (t : State) (place number findi
 pub record Reporting (W H : ℕ) (s before : List ℕ) (at : ℕ) (page room : List ℕ) (t : State) (place number findings next : ℕ) : Type 0 where
   pub going : Going W H s page t place number findings
   pub kept : length room ≡ length before
-  pub ends : (after : List ℕ) (r : ℕ) → Wrote room next (linesLeft (measureOf W H) t (drop place s) place number (drawn (measureOf W H) t page) findings) after r
-      → Wrote before at (streamLines (measureOf W H) s) after r
+  pub ends : (after : List ℕ) (r : ℕ) → Wrote room next (linesLeft plainly (measureOf W H) t (drop place s) place number (drawn (measureOf W H) t page) findings) after r
+      → Wrote before at (streamLines plainly (measureOf W H) s) after r
 
 module _ (W H : ℕ) (allow : allowed W H ≡ true) where
   -- nothing is done yet
@@ -106,7 +120,7 @@ module _ (W H : ℕ) (allow : allowed W H ≡ true) where
   fresh s room at page e = record {
     going = going-fresh s page e;
     kept = refl;
-    ends = λ after r w. subst (λ l. Wrote room at l after r) (left-whole (measureOf W H) s) w;
+    ends = λ after r w. subst (λ l. Wrote room at l after r) (left-whole plainly (measureOf W H) s) w;
   }
 
   pub reporting-start : (s room : List ℕ) (at : ℕ) (page : List ℕ) (t : State) → length page ≡ H * (W / 8) → t ≡ afresh (measureOf W H)
@@ -133,13 +147,13 @@ module _ (W H : ℕ) (allow : allowed W H ≡ true) where
         go false e = refl
 
     -- it printed what is its to print
-    does : (o .done ≡ 0 → ⊥) → Prints (measureOf W H) s t (drop place s) place 0 number (drawn (measureOf W H) t page) findings O
-    does z = subst (Prints (measureOf W H) s t (drop place s) place 0 number (drawn (measureOf W H) t page) findings) call-ran
-        (run-prints (measureOf W H) s k t place page number findings (inv .placed) (call-more z))
+    does : (say : Saying) → (o .done ≡ 0 → ⊥) → Prints (measureOf W H) say s t (drop place s) place 0 number (drawn (measureOf W H) t page) findings O
+    does say z = subst (Prints (measureOf W H) say s t (drop place s) place 0 number (drawn (measureOf W H) t page) findings) call-ran
+        (run-prints (measureOf W H) s k t place page say number findings (inv .placed) (call-more z))
 
     -- less is left to read
     pub going-less : (o .done ≡ 0 → ⊥) → left (o .state .sequence) (drop (o .place) s) < left (t .sequence) (drop place s)
-    going-less z = let l = does z .less in omega arith
+    going-less z = let l = does plainly z .less in omega arith
 
     -- a run with something to do leaves all as it should be
     pub going-again : {i j : ℕ} → (o .done ≡ 0 → ⊥) → length page′ ≡ length page → i ≡ cond (o .ended) 1 0 → j ≡ counted (o .finding)
@@ -149,7 +163,7 @@ module _ (W H : ℕ) (allow : allowed W H ≡ true) where
           sized = e ∙ inv .sized;
           sound = subst (λ (q : Outcome). sound (measureOf W H) (q .ran .state) ≡ true) call-ran (run-kept (measureOf W H) (allowed-gives W H allow .fits) (suc k) t place page s (inv .shaped) (inv .sound));
           shaped = subst (λ (q : Outcome). Shaped (q .ran .state .core)) call-ran (run-shaped (measureOf W H) (allowed-gives W H allow .fits .wide) (suc k) t place page s (inv .shaped));
-          placed = does z .inside;
+          placed = does plainly z .inside;
           pages = one (o .ended);
           found = one-found (isClean (o .finding));
         }
@@ -163,9 +177,9 @@ module _ (W H : ℕ) (allow : allowed W H ≡ true) where
         one-found false = let l = going-less z in let i = inv .found in omega arith
 
     -- the lines that were left are those of the run, and those that are left behind it
-    pub lines-again : (o .done ≡ 0 → ⊥)
-        → linesLeft (measureOf W H) t (drop place s) place number (drawn (measureOf W H) t page) findings ≡ printed number o page′ [] ++ behind (measureOf W H) s number findings O
-    lines-again z = does z .lines ∙ printed-append number o page′ (behind (measureOf W H) s number findings O)
+    pub lines-again : (say : Saying) → Ahead say → (o .done ≡ 0 → ⊥)
+        → linesLeft say (measureOf W H) t (drop place s) place number (drawn (measureOf W H) t page) findings ≡ printed say number o page′ [] ++ behind (measureOf W H) say s number findings O
+    lines-again say ahead z = does say z .lines ∙ printed-append say ahead number o page′ (behind (measureOf W H) say s number findings O)
 
     -- a run that did nothing found the stream at its end
     pub call-over : o .done ≡ 0 → over t (drop place s) ≡ true
@@ -176,12 +190,12 @@ module _ (W H : ℕ) (allow : allowed W H ≡ true) where
     call-same z = sym call-ran ∙ run-over (measureOf W H) s k t place page (call-over z)
 
     -- the lines that were left are the last ones
-    pub lines-end : o .done ≡ 0
-        → lastLines number (world (o .state .core) page′ []) findings ≡ linesLeft (measureOf W H) t (drop place s) place number (drawn (measureOf W H) t page) findings
-    lines-end z =
+    pub lines-end : (say : Saying) → o .done ≡ 0
+        → lastLines number (world (o .state .core) page′ []) findings ≡ linesLeft say (measureOf W H) t (drop place s) place number (drawn (measureOf W H) t page) findings
+    lines-end say z =
         ap (λ (q : Outcome). lastLines number (world (q .ran .state .core) (q .page) []) findings) (call-same z)
         ∙ seen (t .core .used) page _
-        ∙ sym (left-over (measureOf W H) t (drop place s) place number (drawn (measureOf W H) t page) findings (call-over z))
+        ∙ sym (left-over say (measureOf W H) t (drop place s) place number (drawn (measureOf W H) t page) findings (call-over z))
       where
         seen : (u : Bool) (a b : List ℕ) → cond u (line PAGE (number ∷ onesAll a ∷ []) b) b ≡ cond u (line PAGE (number ∷ onesAll (cond u a (blank (measureOf W H))) ∷ []) b) b
         seen true a b = refl
@@ -197,14 +211,14 @@ module _ (W H : ℕ) (allow : allowed W H ≡ true) where
     reporting-less z = going-less (inv .going) within k promise z
 
     -- the lines of a run are written
-    pub reporting-again : {room′ : List ℕ} {r i j : ℕ} → (o .done ≡ 0 → ⊥) → length page′ ≡ length page → i ≡ cond (o .ended) 1 0 → j ≡ counted (o .finding) → Wrote room next (printed number o page′ []) room′ r
+    pub reporting-again : {room′ : List ℕ} {r i j : ℕ} → (o .done ≡ 0 → ⊥) → length page′ ≡ length page → i ≡ cond (o .ended) 1 0 → j ≡ counted (o .finding) → Wrote room next (printed plainly number o page′ []) room′ r
         → Reporting W H s before at page′ room′ (o .state) (o .place) (number + i) (findings + j) r
     reporting-again z e x y v = record {
       going = going-again (inv .going) within k promise z e x y;
-      kept = ap length (v .held) ∙ length-sets room next (printed number o page′ []) ∙ inv .kept;
-      ends = λ after q u. inv .ends after q (rw (lines-again (inv .going) within k promise z, ← x, ← y) (wrote-both v u));
+      kept = ap length (v .held) ∙ length-sets room next (printed plainly number o page′ []) ∙ inv .kept;
+      ends = λ after q u. inv .ends after q (rw (lines-again (inv .going) within k promise plainly plainly-ahead z, ← x, ← y) (wrote-both v u));
     }
 
     -- the last lines are written
-    pub reporting-end : {after : List ℕ} {r : ℕ} → o .done ≡ 0 → Wrote room next (lastLines number (world (o .state .core) page′ []) findings) after r → Wrote before at (streamLines (measureOf W H) s) after r
-    reporting-end {after} {r} z w = inv .ends after r (subst (λ l. Wrote room next l after r) (lines-end (inv .going) within k promise z) w)
+    pub reporting-end : {after : List ℕ} {r : ℕ} → o .done ≡ 0 → Wrote room next (lastLines number (world (o .state .core) page′ []) findings) after r → Wrote before at (streamLines plainly (measureOf W H) s) after r
+    reporting-end {after} {r} z w = inv .ends after r (subst (λ l. Wrote room next l after r) (lines-end (inv .going) within k promise plainly z) w)

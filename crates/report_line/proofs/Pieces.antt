@@ -64,3 +64,8 @@ module _ {l l1 l2 : List ℕ} {at a r : ℕ} where
   -- a word and the numbers behind it
   pub wrote-line : (word m : List ℕ) → Wrote l at word l1 a → Wrote l1 a (fields m []) l2 r → Wrote l at (line word m []) l2 r
   wrote-line word m p q = wrote-both p q
+
+-- a word and four numbers behind it
+pub wrote-four : {l l1 l2 l3 l4 : List ℕ} {at a b c r : ℕ} (word : List ℕ) (x y d n : ℕ) → Wrote l at word l1 a → Wrote l1 a (9 ∷ decimal x []) l2 b → Wrote l2 b (9 ∷ decimal y []) l3 c
+    → Wrote l3 c (fields (d ∷ n ∷ []) []) l4 r → Wrote l at (line word (x ∷ y ∷ d ∷ n ∷ []) []) l4 r
+wrote-four word x y d n p q s t = wrote-line word (x ∷ y ∷ d ∷ n ∷ []) p (wrote-more x (y ∷ d ∷ n ∷ []) q (wrote-more y (d ∷ n ∷ []) s t))

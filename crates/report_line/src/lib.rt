@@ -50,3 +50,21 @@ pub fn write_line(word: &[u8], a: usize, b: usize, room: &mut [u8], at: usize) -
     let behind = write_word(word, room, at);
     write_last_two(a, b, room, behind)
 }
+
+// A line of four numbers: END is such a line.
+pub fn write_four(
+    word: &[u8],
+    a: usize,
+    b: usize,
+    c: usize,
+    d: usize,
+    room: &mut [u8],
+    at: usize,
+) -> usize
+    ensures { λ r. ⌜ Wrote (now (room .entry)) at (line (now (word .entry)) (a ∷ b ∷ c ∷ d ∷ []) []) (now (room .exit)) r ⌝ }
+{
+    let behind_word = write_word(word, room, at);
+    let behind_a = write_field(a, room, behind_word);
+    let behind_b = write_field(b, room, behind_a);
+    write_last_two(c, d, room, behind_b)
+}

@@ -8,16 +8,10 @@ use Rattle.common.specs.Bits.{onesAll}
 use Rattle.common.specs.Stores.{Wrote}
 use Rattle.common.proofs.Stores.{wrote-both}
 use Rattle.rules.specs.declared.Core.{Core}
-use Rattle.rules.specs.Plain.{decimal}
 use Rattle.rules.specs.Acts.{world}
-use Rattle.rules.specs.Report.{fields, line, PAGE, END, lastLines}
+use Rattle.rules.specs.Report.{line, PAGE, END, lastLines}
 use Rattle.report_line.proofs.Texts.{line-append, cond-append}
-use Rattle.report_line.proofs.Pieces.{wrote-nothing, wrote-more, wrote-line}
-
--- END and its four numbers
-pub wrote-end : {l l1 l2 l3 l4 : List ℕ} {at a b c r : ℕ} (x y d n : ℕ) → Wrote l at END l1 a → Wrote l1 a (9 ∷ decimal x []) l2 b → Wrote l2 b (9 ∷ decimal y []) l3 c
-    → Wrote l3 c (fields (d ∷ n ∷ []) []) l4 r → Wrote l at (line END (x ∷ y ∷ d ∷ n ∷ []) []) l4 r
-wrote-end x y d n p q s t = wrote-line END (x ∷ y ∷ d ∷ n ∷ []) p (wrote-more x (y ∷ d ∷ n ∷ []) q (wrote-more y (d ∷ n ∷ []) s t))
+use Rattle.report_line.proofs.Pieces.{wrote-nothing}
 
 -- the line of a page has its dots
 pub wrote-page : {l l' : List ℕ} {at r : ℕ} (number : ℕ) (p : List ℕ) (dots : ℕ) → dots ≡ onesAll p → Wrote l at (line PAGE (number ∷ dots ∷ []) []) l' r

@@ -9,10 +9,8 @@ ghost use Rattle.common.specs.Stores.{Wrote};
 ghost use Rattle.dot_page.specs.Zeros.{FirstZero};
 ghost use Rattle.rules.specs.Acts.{world};
 ghost use Rattle.rules.specs.Report.{line, PAGE, END, lastLines};
-use report_line::write_field;
-use report_line::write_last_two;
+use report_line::write_four;
 use report_line::write_line;
-use report_line::write_word;
 use rules::Core;
 
 // PAGE, page number, dots set on it. The first `zeros` bytes of the page are known to be zero and not counted.
@@ -46,10 +44,15 @@ pub fn write_page_if(
 fn write_end(core: Core, findings: usize, room: &mut [u8], at: usize) -> usize
     ensures { λ r. ⌜ Wrote (now (room .entry)) at (line END (core .at .x ∷ core .at .y ∷ core .depth ∷ findings ∷ []) []) (now (room .exit)) r ⌝ }
 {
-    let behind_word = write_word(b"END", room, at);
-    let behind_x = write_field(core.at.x as usize, room, behind_word);
-    let behind_y = write_field(core.at.y as usize, room, behind_x);
-    write_last_two(core.depth, findings, room, behind_y)
+    write_four(
+        b"END",
+        core.at.x as usize,
+        core.at.y as usize,
+        core.depth,
+        findings,
+        room,
+        at,
+    )
 }
 
 // The last lines: the page that is left, if it is used, and END. Of a used page no byte is known to be zero.

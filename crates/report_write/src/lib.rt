@@ -7,7 +7,7 @@ ghost use lib.ListN.{length};
 ghost use Rattle.common.specs.Stores.{Wrote};
 ghost use Rattle.rules.specs.States.{afresh};
 ghost use Rattle.rules.specs.Report.{reportPage};
-ghost use Rattle.report_laws.specs.Left.{streamLines};
+ghost use Rattle.report_laws.specs.Left.{plainly, streamLines};
 ghost use Rattle.report_laws.specs.Bound.{Reported};
 use report_run::count_of;
 use report_run::one_if;
@@ -34,26 +34,28 @@ fn first_state() -> State
     state_afresh::afresh(state_page::measure_of(WIDTH, HEIGHT))
 }
 
-// The lines behind SIZE: run after run, until nothing is left to do. Every page is counted, as if none of its bytes were known to be zero.
+// The lines behind SIZE: run after run, until nothing is left to do. `zeros` is what each run leaves known of the page: a blank one is neither zeroed again
+// nor counted.
 fn write_stream(s: &[u8], page: &mut [u8], room: &mut [u8], at: usize) -> usize
     requires { ⌜ length (now s) ≤ 65536 ⌝ }
     requires { ⌜ length (now page) ≡ 64000 ⌝ }
-    ensures { λ r. ⌜ Wrote (now (room .entry)) at (streamLines reportPage (now (s .entry))) (now (room .exit)) r ⌝ }
+    ensures { λ r. ⌜ Wrote (now (room .entry)) at (streamLines plainly reportPage (now (s .entry))) (now (room .exit)) r ⌝ }
 {
     let mut state = first_state();
     let mut place: usize = 0;
     let mut number: usize = 1;
     let mut findings: usize = 0;
     let mut next = at;
+    let mut zeros: usize = 0;
     loop {
-        let o = run::run(page, WIDTH, HEIGHT, s, state, place, ALLOWANCE);
+        let o = run::run(page, WIDTH, HEIGHT, s, state, place, ALLOWANCE, &mut zeros);
         let t = o.state;
         if o.done == 0 {
             let core = t.core;
             return report_page::write_last(number, core, page, findings, room, next);
         }
         let f = o.finding;
-        next = write_ran(o, number, page, 0, room, next);
+        next = write_ran(o, number, page, zeros, room, next);
         number += one_if(o.ended);
         findings += count_of(f);
         place = o.place;

@@ -18,6 +18,7 @@ use rules::Finding;
 use rules::Measure;
 use rules::Ran;
 use rules::Refusal;
+use rules::Spot;
 use rules::State;
 use rules::Verdict;
 use run_items::is_over;
@@ -26,8 +27,9 @@ use state_page::allowed;
 use state_page::measure_of;
 use state_sound::sound;
 
-// With the page unused and an item to do, a run zeroes the page first. Given is how many bytes of it are then known to be zero.
-fn ready_page(page: &mut [u8], used: bool, allowance: usize, over: bool) -> usize
+// With the page unused and an item to do, a run zeroes the page first, if not all of its bytes are known to be zero. Given is how many then are.
+fn ready_page(page: &mut [u8], used: bool, allowance: usize, over: bool, zeros: usize) -> usize
+    requires { ⌜ FirstZero zeros (now page) ⌝ }
     ensures { λ r. ⌜ (now (page .exit) ≡ cond (used || eqb allowance 0 || over) (now (page .entry)) (replicate (length (now (page .entry))) 0)) × (r ≡ cond (used || eqb allowance 0 || over) 0 (length (now (page .entry)))) ⌝ }
 {
     if used {
@@ -40,11 +42,14 @@ fn ready_page(page: &mut [u8], used: bool, allowance: usize, over: bool) -> usiz
         return 0;
     }
     let n = page.len();
+    if n <= zeros {
+        return n;
+    }
     clear(page, n);
     n
 }
 
-// A run on the page's own bytes; `zeros` is how many of them are known to be zero behind it.
+// A run on the page's own bytes; `zeros` is how many of them are known to be zero before it and behind it.
 fn run_page(
     page: &mut [u8],
     g: Measure,
@@ -54,12 +59,12 @@ fn run_page(
     allowance: usize,
     zeros: &mut usize,
 ) -> Ran
-    requires { ⌜ (place ≤ length (now s)) × Fits g × Shaped (t .core) × SoundState g t × (length (now page) ≡ pageBytes g) ⌝ }
+    requires { ⌜ (place ≤ length (now s)) × Fits g × Shaped (t .core) × SoundState g t × (length (now page) ≡ pageBytes g) × FirstZero (now zeros) (now page) ⌝ }
     ensures { λ r. ⌜ RunsOn (run g allowance t place (now (page .entry)) (now (s .entry))) r (now (page .exit)) × FirstZero (now (zeros .exit)) (now (page .exit)) ⌝ }
 {
     let sequence = t.sequence;
     let over = is_over(s, place, sequence);
-    *zeros = ready_page(page, t.core.used, allowance, over);
+    *zeros = ready_page(page, t.core.used, allowance, over, *zeros);
     run_items(page, g, s, t, place, allowance, zeros)
 }
 
@@ -73,15 +78,16 @@ fn refuse(why: Refusal, t: State, place: usize) -> Ran
         place,
         finding: Finding::Nothing,
         found: 0,
+        began: Spot { x: 0, y: 0 },
         ended: false,
         done: 0,
     }
 }
 
 // At most `allowance` items of the stream s, from a place of it on, on a page of w by h dots that is lent. Refusals 10 to 14 are checked in that order.
-// `zeros` is how many bytes of the page are known to be zero behind it: all of the page's own where it ended a page that was unused, else none. Who
-// counts the dots of pages need not count those of a blank one.
-pub fn run_and_zeros(
+// `zeros` is how many bytes of the page, from the first on, are known to be zero, 0 where none are: before the run, so that an unused page that is blank
+// already is not zeroed again; behind it, so that who counts the dots of pages need not count those of a blank one. Who knows nothing lends a 0.
+pub fn run(
     page: &mut [u8],
     w: usize,
     h: usize,
@@ -91,9 +97,9 @@ pub fn run_and_zeros(
     allowance: usize,
     zeros: &mut usize,
 ) -> Ran
+    requires { ⌜ FirstZero (now zeros) (now page) ⌝ }
     ensures { λ r. ⌜ RunPromise w h (now (page .entry)) (now (s .entry)) t place allowance r (now (page .exit)) × FirstZero (now (zeros .exit)) (now (page .exit)) ⌝ }
 {
-    *zeros = 0;
     if !allowed(w, h) {
         return refuse(Refusal::PageMeasure, t, place);
     }
@@ -111,21 +117,6 @@ pub fn run_and_zeros(
     if s.len() < place {
         return refuse(Refusal::StartPlace, t, place);
     }
+    *zeros = common::least(*zeros, n);
     run_page(&mut page[0..n], g, s, t, place, allowance, zeros)
-}
-
-// The same, and nothing told of zeros.
-pub fn run(
-    page: &mut [u8],
-    w: usize,
-    h: usize,
-    s: &[u8],
-    t: State,
-    place: usize,
-    allowance: usize,
-) -> Ran
-    ensures { λ r. ⌜ RunPromise w h (now (page .entry)) (now (s .entry)) t place allowance r (now (page .exit)) ⌝ }
-{
-    let mut zeros: usize = 0;
-    run_and_zeros(page, w, h, s, t, place, allowance, &mut zeros)
 }

@@ -14,6 +14,7 @@ use Rattle.rules.specs.Measure.{blank}
 use Rattle.rules.specs.Acts.{Act, type, control, escape, order, print, draw, next, nextAll, endsPage, shown, world, show, showAll, step}
 use Rattle.rules.specs.Run.{pageOf}
 use Rattle.theorems.proofs.Pages.{step-single, showAll-core, showAll-blank}
+use Rattle.state_pen.specs.declared.Pen.{Pen}
 use Rattle.run_items.specs.Turns.{Stepped, shownBy, ItemDone, StillBlank}
 
 -- on a page that was blank at first nothing was drawn as long as it is unused
@@ -49,14 +50,9 @@ handed-as-is g (a ∷ b ∷ l) c p h e = absurd (omega arith)
 
 module _ {g : Measure} {t : State} {p s : List ℕ} {at : ℕ} {r : Stepped} {after : List ℕ} (d : ItemDone g t p s at r after) (first : List ℕ) (h : Undrawn g first (t .core .used) p) where
   -- an item that ends the page, which was unused
-  pub blank-ended : (x : Bool) → x ≡ (r .ended && not (t .core .used)) → x ≡ true → first ≡ blank g → after ≡ blank g
-  blank-ended x e f k =
-      let q = and-true (r .ended) (not (t .core .used)) (sym e ∙ f) in
-      d .page ∙ handed-as-is g (step g t (drop at s) .done .acts) (t .core) p (step-single g t (drop at s)) (sym (d .ended) ∙ q .0) ∙ h k (off (t .core .used) (q .1))
-    where
-      off : (b : Bool) → not b ≡ true → b ≡ false
-      off true z = absurd (false≢true z)
-      off false z = refl
+  blank-ended : r .ended ≡ true → t .core .used ≡ false → first ≡ blank g → after ≡ blank g
+  blank-ended e u k =
+      d .page ∙ handed-as-is g (step g t (drop at s) .done .acts) (t .core) p (step-single g t (drop at s)) (sym (d .ended) ∙ e) ∙ h k u
 
   -- an item that ends no page
   pub blank-goes : isNil (shownBy g (step g t (drop at s)) t p .handed) ≡ true → Undrawn g first (r .state .core .used) after
@@ -67,14 +63,24 @@ module _ {g : Measure} {t : State} {p s : List ℕ} {at : ℕ} {r : Stepped} {af
       let e : nextAll g l (t .core) .used ≡ false = sym (ap (λ (x : State). x .core .used) (d .state)) ∙ u in
       d .page ∙ page-none (w .handed) (w .page) n ∙ showAll-blank g l (world (t .core) p []) (h k) (ap (λ (x : Core). x .used) (showAll-core g l (world (t .core) p [])) ∙ e)
 
--- ---- what a run knows of the page
--- it ended no unused page: nothing
-pub blank-unknown : (g : Measure) (p : List ℕ) (zeros : ℕ) (p′ : List ℕ) (zeros′ : ℕ) (x : Bool) → zeros′ ≡ cond x zeros 0 → x ≡ false → StillBlank g p zeros p′ zeros′
-blank-unknown g p zeros p′ zeros′ x e f =
-    let z : zeros′ ≡ 0 = rw f at e in
-    record { few = omega arith; still = λ n k. absurd (omega arith) }
+  -- an item behind which the page is unused, or that ended an unused one
+  pub blank-behind : cond (r .ended) (t .core .used) (r .state .core .used) ≡ false → first ≡ blank g → after ≡ blank g
+  blank-behind u k = go (r .ended) refl u
+    where
+      on : (b : Bool) → false ≡ not b → b ≡ true
+      on true z = refl
+      on false z = absurd (false≢true z)
 
--- it stopped behind an item that ended the page or not
-pub blank-known : (g : Measure) (p : List ℕ) (zeros : ℕ) (p′ : List ℕ) (zeros′ : ℕ) (x : Bool) → zeros′ ≡ cond x zeros 0 → (x ≡ true → p ≡ blank g → p′ ≡ blank g) → StillBlank g p zeros p′ zeros′
-blank-known g p zeros p′ zeros′ true e h = record { few = omega arith; still = λ n k. h refl k }
-blank-known g p zeros p′ zeros′ false e h = blank-unknown g p zeros p′ zeros′ false e refl
+      go : (b : Bool) → r .ended ≡ b → cond b (t .core .used) (r .state .core .used) ≡ false → after ≡ blank g
+      go true e v = blank-ended e v k
+      go false e v = blank-goes (on (isNil (shownBy g (step g t (drop at s)) t p .handed)) (sym e ∙ d .ended)) k v
+
+-- ---- what a run knows of the page
+-- all that was known before where the page is unused, or was when it was ended; else nothing
+pub blank-known : (g : Measure) (p : List ℕ) (zeros : ℕ) (p′ : List ℕ) (zeros′ : ℕ) (u : Bool) → zeros′ ≡ cond u 0 zeros → (u ≡ false → p ≡ blank g → p′ ≡ blank g) → StillBlank g p zeros p′ zeros′
+blank-known g p zeros p′ zeros′ true e h = record { few = omega arith; still = λ n k. absurd (omega arith) }
+blank-known g p zeros p′ zeros′ false e h = record { few = omega arith; still = λ n k. h refl k }
+
+-- a page that is left as a loop left it
+pub blank-left : (ended ended′ before before′ : Bool) (n n′ : Pen) → ended ≡ ended′ → before ≡ before′ → n ≡ n′ → cond ended before (n .used) ≡ false → cond ended′ before′ (n′ .used) ≡ false
+blank-left ended ended′ before before′ n n′ e f h u = rw (e, f, h) at u

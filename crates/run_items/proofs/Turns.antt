@@ -30,7 +30,7 @@ use Rattle.rules.specs.Codes.{typed}
 use Rattle.rules.specs.Items as rule
 use Rattle.rules.specs.Items.{isText, reading, read}
 use Rattle.rules.specs.Acts.{mean, step, isClosed, over}
-use Rattle.rules.specs.Run.{Outcome, outcome, halted, pageOf, placeOf, runFrom, run}
+use Rattle.rules.specs.Run.{Outcome, outcome, halted, pageOf, placeOf, spotOf, runFrom, run}
 use Rattle.rules.specs.declared.Spot.{Spot}
 use Rattle.read_item.specs.declared.Item.the-variants as found
 use Rattle.read_item.specs.declared.ReadItem.{ReadItem}
@@ -43,8 +43,8 @@ use Rattle.do_deed.specs.declared.Deed.{Deed}
 use Rattle.do_deed.specs.Acted.{Acted, actedOf, acted, pageAfter, ActedOn}
 use Rattle.do_deed.specs.Deeds.{wholeOf, DeedOn}
 use Rattle.do_deed.proofs.Acts.{text-done}
-use Rattle.rules.specs.Measure.{blank}
-use Rattle.run_items.proofs.Blank.{Undrawn, page-none, blank-ended, blank-goes}
+use Rattle.rules.specs.Measure.{blank, origin}
+use Rattle.run_items.proofs.Blank.{Undrawn, page-none, blank-goes, blank-behind}
 use Rattle.run_items.specs.Turns.{Stepped, textNext, shownBy, ItemDone, stopOf, RunsOn}
 use Rattle.theorems.specs.Facts.{Fits, Shaped, SoundState}
 use Rattle.theorems.proofs.Streams.{step-shaped}
@@ -121,23 +121,24 @@ text-high b l f = let h : b ≤ 255 = omega (arith, f .fits) in ⊎-elim
     (le-or-lt b 126)
 
 -- ---- the loop
-abbrev ranOf : State → ℕ → Finding → ℕ → Bool → ℕ → Ran
-ranOf t at f found ended done = record { verdict = Carried; state = t; place = at; finding = f; found = found; ended = ended; done = done }
+abbrev ranOf : State → ℕ → Finding → ℕ → Spot → Bool → ℕ → Ran
+ranOf t at f found began ended done = record { verdict = Carried; state = t; place = at; finding = f; found = found; began = began; ended = ended; done = done }
 
 -- nothing was found and no page ended, as long as a run goes on
-pub record Quiet (f : Finding) (n : ℕ) (t : Bool) : Type 0 where
+pub record Quiet (f : Finding) (n : ℕ) (b : Spot) (t : Bool) : Type 0 where
   pub finding : f ≡ Nothing
   pub found : n ≡ 0
+  pub began : b ≡ origin
   pub ended : t ≡ false
 
-pub quiet-first : Quiet Nothing 0 false
-quiet-first = record { finding = refl; found = refl; ended = refl }
+pub quiet-first : Quiet Nothing 0 origin false
+quiet-first = record { finding = refl; found = refl; began = refl; ended = refl }
 
 -- an item behind which a run goes on
-pub quiet-goes : (y : Bool) (f : Finding) (n : ℕ) (t : Bool) → y ≡ (isClean f && not t) → y ≡ true → n ≡ 0 → Quiet f n t
-quiet-goes y f n t j k z =
+pub quiet-goes : (y : Bool) (f : Finding) (n : ℕ) (b : Spot) (t : Bool) → y ≡ (isClean f && not t) → y ≡ true → n ≡ 0 → b ≡ origin → Quiet f n b t
+quiet-goes y f n b t j k z w =
     let q = and-true (isClean f) (not t) (sym j ∙ k) in
-    record { finding = clean f (q .0); found = z; ended = off t (q .1) }
+    record { finding = clean f (q .0); found = z; began = w; ended = off t (q .1) }
   where
     off : (b : Bool) → not b ≡ true → b ≡ false
     off true e = absurd (false≢true e)
@@ -164,23 +165,27 @@ pub record Going (g : Measure) (s : List ℕ) (allow : ℕ) (o : Outcome) (t : S
 
 module _ (g : Measure) (fit : Fits g) (s : List ℕ) (allow : ℕ) (o : Outcome) (t : State) (at done : ℕ) {first : List ℕ} (p : List ℕ) (h : Going g s allow o t at done first p) where
   -- the allowance is used up
-  pub turn-full : (f : Finding) (n : ℕ) (ended : Bool) → Quiet f n ended → allow ≤ done → RunsOn o (ranOf t at f n ended done) p
+  pub turn-full : (f : Finding) (n : ℕ) (b : Spot) (ended : Bool) → Quiet f n b ended → allow ≤ done → RunsOn o (ranOf t at f n b ended done) p
   unfolding runFrom
-  turn-full f n ended q l =
+  turn-full f n b ended q l =
       let z : allow - done ≡ 0 = omega arith in
       let e : halted t at done p ≡ o = rw z at (h .left) in
-      rw (q .finding, q .found, q .ended) (record { given = ap (λ (x : Outcome). x .ran) e; lent = ap (λ (x : Outcome). x .page) e })
+      rw (q .finding, q .found, q .began, q .ended) (record { given = ap (λ (x : Outcome). x .ran) e; lent = ap (λ (x : Outcome). x .page) e })
+
+  -- a page that is not ended is blank as long as it is unused, if it was at first
+  pub turn-still : (ended before behind : Bool) → ended ≡ false → behind ≡ t .core .used → cond ended before behind ≡ false → first ≡ blank g → p ≡ blank g
+  turn-still ended before behind e f u k = h .undrawn k (sym f ∙ (rw e at u))
 
   module _ (l : done < allow) where
     one-more : allow - done ≡ suc (allow - (done + 1))
     one-more = omega arith
 
     -- there is no item to do
-    pub turn-over : (y : Finding) (n : ℕ) (ended : Bool) → Quiet y n ended → (x : Bool) → x ≡ over t (drop at s) → x ≡ true → RunsOn o (ranOf t at y n ended done) p
+    pub turn-over : (y : Finding) (n : ℕ) (b : Spot) (ended : Bool) → Quiet y n b ended → (x : Bool) → x ≡ over t (drop at s) → x ≡ true → RunsOn o (ranOf t at y n b ended done) p
     unfolding runFrom
-    turn-over y n ended q x e f =
+    turn-over y n b ended q x e f =
         let k : halted t at done p ≡ o = rw (← e, f) at (rw one-more at (h .left)) in
-        rw (q .finding, q .found, q .ended) (record { given = ap (λ (z : Outcome). z .ran) k; lent = ap (λ (z : Outcome). z .page) k })
+        rw (q .finding, q .found, q .began, q .ended) (record { given = ap (λ (z : Outcome). z .ran) k; lent = ap (λ (z : Outcome). z .page) k })
 
     module _ (x : Bool) (e : x ≡ over t (drop at s)) (f : x ≡ false) (r : Stepped) (after : List ℕ) (d : ItemDone g t p s at r after) where
       -- what is left to do behind it, and what the run comes to where it stops
@@ -188,7 +193,7 @@ module _ (g : Measure) (fit : Fits g) (s : List ℕ) (allow : ℕ) (o : Outcome)
       more = runFrom g (allow - (done + 1)) (done + 1) (at + step g t (drop at s) .done .took) (step g t (drop at s) .state) (shownBy g (step g t (drop at s)) t p .page) (step g t (drop at s) .rest)
 
       abbrev stop : Outcome
-      stop = outcome Carried (step g t (drop at s) .state) (at + step g t (drop at s) .done .took) (step g t (drop at s) .done .finding) (placeOf (step g t (drop at s) .done .finding) at) (not (isNil (shownBy g (step g t (drop at s)) t p .handed))) (done + 1) (pageOf (shownBy g (step g t (drop at s)) t p .handed) (shownBy g (step g t (drop at s)) t p .page))
+      stop = outcome Carried (step g t (drop at s) .state) (at + step g t (drop at s) .done .took) (step g t (drop at s) .done .finding) (placeOf (step g t (drop at s) .done .finding) at) (spotOf (step g t (drop at s) .done .finding) (t .core .at)) (not (isNil (shownBy g (step g t (drop at s)) t p .handed))) (done + 1) (pageOf (shownBy g (step g t (drop at s)) t p .handed) (shownBy g (step g t (drop at s)) t p .page))
 
       turned : cond (isClean (step g t (drop at s) .done .finding) && isNil (shownBy g (step g t (drop at s)) t p .handed)) more stop ≡ o
       unfolding runFrom
@@ -203,16 +208,16 @@ module _ (g : Measure) (fit : Fits g) (s : List ℕ) (allow : ℕ) (o : Outcome)
           twice false = refl
 
       -- an item that stops the run
-      pub turn-stops : (y : Bool) → y ≡ (isClean (r .finding) && not (r .ended)) → y ≡ false → (v : Ran) → v ≡ stopOf r at (done + 1) → RunsOn o v after
+      pub turn-stops : (y : Bool) → y ≡ (isClean (r .finding) && not (r .ended)) → y ≡ false → (v : Ran) → v ≡ stopOf r at (t .core .at) (done + 1) → RunsOn o v after
       turn-stops y j k v i =
           let w = shownBy g (step g t (drop at s)) t p in
           let q : (isClean (step g t (drop at s) .done .finding) && isNil (w .handed)) ≡ false = same-test (w .handed) (d .ended) ∙ sym j ∙ k in
           let z : stop ≡ o = rw q at turned in
           record { given = rw (← z) (i ∙ rw (d .state, d .next, d .finding, d .ended)); lent = d .page ∙ ap (λ (v : Outcome). v .page) z }
 
-      -- what it leaves of a page that was blank, where it ended the page and that was unused
-      pub turn-blank : (x : Bool) → x ≡ (r .ended && not (t .core .used)) → x ≡ true → first ≡ blank g → after ≡ blank g
-      turn-blank = blank-ended d first (h .undrawn)
+      -- what it leaves of a page that was blank, where that is unused, or was when it was ended
+      pub turn-blank : cond (r .ended) (t .core .used) (r .state .core .used) ≡ false → first ≡ blank g → after ≡ blank g
+      turn-blank = blank-behind d first (h .undrawn)
 
       -- one behind which it goes on
       pub turn-goes : (y : Bool) → y ≡ (isClean (r .finding) && not (r .ended)) → y ≡ true → Going g s allow o (r .state) (r .next) (done + 1) first after
@@ -230,10 +235,14 @@ module _ (g : Measure) (fit : Fits g) (s : List ℕ) (allow : ℕ) (o : Outcome)
             undrawn = blank-goes d first (h .undrawn) n;
           }
 
+-- no finding was nowhere
+pub spot-none : (f : Finding) (at : Spot) (x : Bool) → x ≡ isClean f → x ≡ true → origin ≡ spotOf f at
+spot-none f at x e h = rw (← e, h)
+
 -- what a run gives that stops behind an item
-pub stop-is : (r : Stepped) (begins done found : ℕ) → found ≡ placeOf (r .finding) begins
-    → ranOf (r .state) (r .next) (r .finding) found (r .ended) done ≡ stopOf r begins done
-stop-is r begins done found e = ap (λ (n : ℕ). ranOf (r .state) (r .next) (r .finding) n (r .ended) done) e
+pub stop-is : (r : Stepped) (begins : ℕ) (from : Spot) (done found : ℕ) (began : Spot) → found ≡ placeOf (r .finding) begins → began ≡ spotOf (r .finding) from
+    → ranOf (r .state) (r .next) (r .finding) found began (r .ended) done ≡ stopOf r begins from done
+stop-is r begins from done found began e b = rw (e, b)
 
 -- a text byte is no ESC
 pub text-plain : (b : ℕ) → isText b ≡ true → eqb b 27 ≡ false
@@ -304,11 +313,11 @@ pub run-whole : (g : Measure) (s : List ℕ) (allow place : ℕ) (t : State) (n 
 run-whole g s allow place t n p r after e h = rw (pen-back n (t .core) e) at h
 
 -- what a loop is left with
-pub left-with : (o : Outcome) (p : List ℕ) (n : Pen) (l : List Spot) (seed : List ℕ) (m : Beside) (q : Sequence) (at done : ℕ) (f : Finding) (found : ℕ) (ended : Bool)
-    (p′ : List ℕ) (n′ : Pen) (l′ : List Spot) (seed′ : List ℕ) (m′ : Beside) (q′ : Sequence) (at′ done′ : ℕ) (f′ : Finding) (found′ : ℕ) (ended′ : Bool) (c : Core)
-    → p ≡ p′ → n ≡ n′ → l ≡ l′ → seed ≡ seed′ → m ≡ m′ → q ≡ q′ → at ≡ at′ → done ≡ done′ → f ≡ f′ → found ≡ found′ → ended ≡ ended′
-    → c ≡ coreOf n l seed → RunsOn o (ranOf (stateOf (coreOf n′ l′ seed′) m′ q′) at′ f′ found′ ended′ done′) p′ → RunsOn o (ranOf (stateOf c m q) at f found ended done) p
-left-with o p n l seed m q at done f found ended p′ n′ l′ seed′ m′ q′ at′ done′ f′ found′ ended′ c e0 e1 e2 e3 e4 e5 e6 e7 e8 e9 e10 k h = rw (k, e0, e1, e2, e3, e4, e5, e6, e7, e8, e9, e10) h
+pub left-with : (o : Outcome) (p : List ℕ) (n : Pen) (l : List Spot) (seed : List ℕ) (m : Beside) (q : Sequence) (at done : ℕ) (f : Finding) (found : ℕ) (began : Spot) (ended : Bool)
+    (p′ : List ℕ) (n′ : Pen) (l′ : List Spot) (seed′ : List ℕ) (m′ : Beside) (q′ : Sequence) (at′ done′ : ℕ) (f′ : Finding) (found′ : ℕ) (began′ : Spot) (ended′ : Bool) (c : Core)
+    → p ≡ p′ → n ≡ n′ → l ≡ l′ → seed ≡ seed′ → m ≡ m′ → q ≡ q′ → at ≡ at′ → done ≡ done′ → f ≡ f′ → found ≡ found′ → began ≡ began′ → ended ≡ ended′
+    → c ≡ coreOf n l seed → RunsOn o (ranOf (stateOf (coreOf n′ l′ seed′) m′ q′) at′ f′ found′ began′ ended′ done′) p′ → RunsOn o (ranOf (stateOf c m q) at f found began ended done) p
+left-with o p n l seed m q at done f found began ended p′ n′ l′ seed′ m′ q′ at′ done′ f′ found′ began′ ended′ c e0 e1 e2 e3 e4 e5 e6 e7 e8 e9 e10 e11 k h = rw (k, e0, e1, e2, e3, e4, e5, e6, e7, e8, e9, e10, e11) h
 
 -- a run goes on behind an item without a finding that ends no page
 pub goes-quiet : (f : Finding) (t : Bool) → f ≡ Nothing → t ≡ false → true ≡ (isClean f && not t)

@@ -8,6 +8,7 @@ use lib.ListN.{length, drop, getD}
 use Rattle.common.specs.Lists.{isNil}
 use Rattle.rules.specs.declared.Measure.{Measure}
 use Rattle.rules.specs.declared.Sequence.{Sequence}
+use Rattle.rules.specs.declared.Spot.{Spot}
 use Rattle.rules.specs.declared.Finding.{Finding}
 use Rattle.rules.specs.declared.State.{State}
 use Rattle.rules.specs.declared.Ran.{Ran}
@@ -15,7 +16,7 @@ use Rattle.rules.specs.Measure.{blank}
 use Rattle.rules.specs.Items.{isText}
 use Rattle.rules.specs.Acts.{World, world, showAll, Step, step, isClosed}
 use Rattle.rules.specs.declared.Verdict.the-variants.{Carried}
-use Rattle.rules.specs.Run.{Outcome, pageOf, placeOf}
+use Rattle.rules.specs.Run.{Outcome, pageOf, placeOf, spotOf}
 
 -- whether the item at a place is space or text: no sequence is open there
 abbrev pub textNext : List ℕ → ℕ → Sequence → Bool
@@ -49,14 +50,15 @@ pub record ItemDone (g : Measure) (t : State) (p s : List ℕ) (at : ℕ) (r : S
   -- it is not beyond the end
   pub inside : r .next ≤ length s
 
--- what a run gives that stops behind an item, which began at the place `begins`
-abbrev pub stopOf : Stepped → ℕ → ℕ → Ran
-stopOf r begins done = record {
+-- what a run gives that stops behind an item, which began at the place `begins` of the stream, with the cursor at `from`
+abbrev pub stopOf : Stepped → ℕ → Spot → ℕ → Ran
+stopOf r begins from done = record {
   verdict = Carried;
   state = r .state;
   place = r .next;
   finding = r .finding;
   found = placeOf (r .finding) begins;
+  began = spotOf (r .finding) from;
   ended = r .ended;
   done = done;
 }

@@ -8,7 +8,7 @@ ghost use Rattle.common.specs.Lists.{isNil};
 ghost use Rattle.rules.specs.Findings.{isClean};
 ghost use Rattle.rules.specs.Items.{isText};
 ghost use Rattle.rules.specs.Acts.{isClosed};
-ghost use Rattle.rules.specs.Run.{placeOf, runFrom};
+ghost use Rattle.rules.specs.Run.{placeOf, spotOf, runFrom};
 ghost use Rattle.theorems.specs.Facts.{Fits, Shaped, SoundState};
 ghost use Rattle.run_items.specs.Turns.{textNext, RunsOn, StillBlank};
 use do_deed::Stacking;
@@ -75,23 +75,27 @@ fn place_of(f: Finding, at: usize) -> usize
     if is_clean(f) { 0 } else { at }
 }
 
-// Whether an item ended a page that was unused when it came: a page end hands the page over as it is, so nothing was drawn on it.
-fn ended_unused(ended: bool, used: bool) -> bool
-    ensures { λ r. ⌜ r ≡ (ended && not used) ⌝ }
+// Where on the page a finding was, the origin where there is none.
+fn spot_of(f: Finding, at: Spot) -> Spot
+    ensures { λ r. ⌜ r ≡ spotOf f at ⌝ }
 {
-    if ended { !used } else { false }
+    if is_clean(f) { Spot { x: 0, y: 0 } } else { at }
 }
 
-// The bytes that are known to be zero behind a run: those known before it, if the page that it ended was unused, else none.
-fn zeros_behind(unused: bool, zeros: usize) -> usize
-    ensures { λ r. ⌜ r ≡ cond unused zeros 0 ⌝ }
+// The bytes that are known to be zero behind a run: those known before it, if nothing was drawn on the page, else none. A page end hands the page over as
+// it is, so a page that was ended is as it was before the item that ended it, used or not.
+fn zeros_behind(ended: bool, before: bool, behind: bool, zeros: usize) -> usize
+    ensures { λ r. ⌜ r ≡ cond (cond ended before behind) 0 zeros ⌝ }
 {
-    if unused { zeros } else { 0 }
+    if ended {
+        return if before { 0 } else { zeros };
+    }
+    if behind { 0 } else { zeros }
 }
 
 // The items of a run. Text is done here, byte by byte: only the cursor moves, and the page is used.
 // The core is large: its pen, its stack and its seed row are kept apart, and a state is made of them only at the end.
-// `zeros` is how many bytes of the page are known to be zero, 0 where none are: it stays as it is only where an unused page was ended.
+// `zeros` is how many bytes of the page are known to be zero, 0 where none are: it stays as it is where the page is unused, or was when it was ended.
 pub fn run_items(
     page: &mut [u8],
     g: Measure,
@@ -114,8 +118,9 @@ pub fn run_items(
     let mut done: usize = 0;
     let mut finding = Finding::Nothing;
     let mut found: usize = 0;
+    let mut began = Spot { x: 0, y: 0 };
     let mut ended = false;
-    let mut unused = false;
+    let mut was_used = false;
     while done < allowance {
         if text_next(s, at, sequence) {
             let from = pen.at;
@@ -166,11 +171,12 @@ pub fn run_items(
         ended = d.ended;
         if !goes_on(finding, ended) {
             found = place_of(finding, begins);
-            unused = ended_unused(ended, used);
+            began = spot_of(finding, from);
+            was_used = used;
             break;
         }
     }
-    *zeros = zeros_behind(unused, *zeros);
+    *zeros = zeros_behind(ended, was_used, pen.used, *zeros);
     let core = core_of(pen, stack, seed);
     let state = State {
         core,
@@ -183,6 +189,7 @@ pub fn run_items(
         place: at,
         finding,
         found,
+        began,
         ended,
         done,
     }

@@ -1,4 +1,5 @@
 -- `door::rov_run` meets its contract. Assumes nothing.
+use Rattle.run.proofs.Ready.{none-known}
 use Rattle.door.proofs.Told.{answered}
 use borrow.Author.Needs.{needs}
 use Rattle.door.proofs.rov_run.Statement.{statement}
@@ -7,8 +8,8 @@ use Rattle.door.proofs.rov_run.Tie as tie
 read-state-requires : tie.Need-read-state-requires
 read-state-requires c κs = search needs
 
-run-and-zeros-requires : tie.Need-run-and-zeros-requires
-run-and-zeros-requires c κs = search needs
+run-requires : tie.Need-run-requires
+run-requires c κs = search (none-known, needs)
 
 finding-number-requires : tie.Need-finding-number-requires
 finding-number-requires c κs = search needs
@@ -36,7 +37,7 @@ rov-run-spec =
     tie.close
     (tie.spec
     read-state-requires
-    run-and-zeros-requires
+    run-requires
     finding-number-requires
     flag-of-requires
     give-back-requires

@@ -6,24 +6,28 @@ use Rattle.pages.proofs.write_steps.Tie as tie
 use lib.ListN.{drop, length-take}
 use native.Mathlib.Omega.{arith}
 use Rattle.theorems.proofs.Reading.{left}
+use Rattle.dot_page.specs.Zeros.{FirstZero}
+use Rattle.run.proofs.Ready.{none-known}
 use Rattle.pages_step.proofs.Stepping.{Stepping, stepping-start, stepping-small, stepping-less, stepping-again}
 
 abbrev Inv-loop : tie.InvT-loop
-Inv-loop page₀ w h s head room₀ state₀ place₀ number₀ findings₀ page room state place number findings =
-    Stepping w h s page room₀ room state place number findings
+Inv-loop page₀ w h s head room₀ state₀ place₀ number₀ findings₀ zeros₀ page room state place number findings zeros =
+    Stepping w h s page room₀ room state place number findings × FirstZero zeros page
 
 abbrev μ-loop : tie.MeasureT-loop
-μ-loop page₀ w h s head room₀ state₀ place₀ number₀ findings₀ page room state place number findings =
+μ-loop page₀ w h s head room₀ state₀ place₀ number₀ findings₀ zeros₀ page room state place number findings zeros =
     left (state .sequence) (drop place s)
 
 first-state-requires : tie.Need-first-state-requires Inv-loop μ-loop
 first-state-requires c κs = search needs
 
 loop-holds : tie.Need-loop-holds Inv-loop μ-loop
-loop-holds c = search (stepping-start, needs)
+loop-holds c = search (stepping-start, none-known, needs)
 
 next-requires : tie.Need-next-requires Inv-loop μ-loop
-next-requires c κs = stepping-small (c .before .before .loop .inv) (c .before .before .before .before .before .before .before .before .pre .0) (c .before .before .before .before .before .before .before .before .pre .1 .1 .0)
+next-requires c κs =
+    let small = stepping-small (c .before .before .before .loop .inv .0) (c .before .before .before .before .before .before .before .before .before .pre .0) (c .before .before .before .before .before .before .before .before .before .pre .1 .1 .0) in
+    (small .0, small .1, small .2, c .before .before .before .loop .inv .1)
 
 write-page-requires : tie.Need-write-page-requires Inv-loop μ-loop
 write-page-requires c κs = search needs
@@ -31,12 +35,12 @@ write-page-requires c κs = search needs
 same-length : tie.Need-same-length Inv-loop μ-loop
 same-length c =
     let made = c .before .before .before .before .before .before .before in
-    omega (arith, made .before .before .before .before .before .before .before .before .before .pre .1 .0, made .next .kept .0, made .before .before .before .loop .inv .going .sized)
+    omega (arith, made .before .before .before .before .before .before .before .before .before .before .pre .1 .0, made .next .kept .0, made .before .before .before .before .loop .inv .0 .going .sized)
 
 same-length-2 : tie.Need-same-length-2 Inv-loop μ-loop
 same-length-2 c =
     let made = c .before .before .before .before .before .before .before in
-    omega (arith, made .next .kept .1 .1 .1 .1 .1 .1 .1 .1 .0, made .before .before .before .loop .inv .kept)
+    omega (arith, made .next .kept .1 .1 .1 .1 .1 .1 .1 .1 .1 .0, made .before .before .before .before .loop .inv .0 .kept)
 
 returns : tie.Need-returns Inv-loop μ-loop
 returns c = search needs
@@ -53,12 +57,12 @@ write-all-requires c κs = search needs
 same-length-3 : tie.Need-same-length-3 Inv-loop μ-loop
 same-length-3 c =
     let made = c .before .before .before .before .before .before .before .before .before .before in
-    omega (arith, made .before .before .before .before .before .before .before .before .before .pre .1 .0, made .next .kept .0, made .before .before .before .loop .inv .going .sized)
+    omega (arith, made .before .before .before .before .before .before .before .before .before .before .pre .1 .0, made .next .kept .0, made .before .before .before .before .loop .inv .0 .going .sized)
 
 same-length-4 : tie.Need-same-length-4 Inv-loop μ-loop
 same-length-4 c =
     let made = c .before .before .before .before .before .before .before .before .before .before in
-    omega (arith, made .next .kept .1 .1 .1 .1 .1 .1 .1 .1 .0, made .before .before .before .loop .inv .kept)
+    omega (arith, made .next .kept .1 .1 .1 .1 .1 .1 .1 .1 .1 .0, made .before .before .before .before .loop .inv .0 .kept)
 
 returns-2 : tie.Need-returns-2 Inv-loop μ-loop
 returns-2 c = search needs
@@ -66,12 +70,12 @@ returns-2 c = search needs
 same-length-5 : tie.Need-same-length-5 Inv-loop μ-loop
 same-length-5 c =
     let made = c .before .before .before .before .before .before .before .before .before .before .before in
-    omega (arith, made .before .before .before .before .before .before .before .before .before .pre .1 .0, made .next .kept .0, made .before .before .before .loop .inv .going .sized)
+    omega (arith, made .before .before .before .before .before .before .before .before .before .before .pre .1 .0, made .next .kept .0, made .before .before .before .before .loop .inv .0 .going .sized)
 
 same-length-6 : tie.Need-same-length-6 Inv-loop μ-loop
 same-length-6 c =
     let made = c .before .before .before .before .before .before .before .before .before .before .before in
-    omega (arith, made .next .kept .1 .1 .1 .1 .1 .1 .1 .1 .0, made .before .before .before .loop .inv .kept)
+    omega (arith, made .next .kept .1 .1 .1 .1 .1 .1 .1 .1 .1 .0, made .before .before .before .before .loop .inv .0 .kept)
 
 returns-3 : tie.Need-returns-3 Inv-loop μ-loop
 returns-3 c = search needs
@@ -79,12 +83,12 @@ returns-3 c = search needs
 loop-less : tie.Need-loop-less Inv-loop μ-loop
 loop-less c =
     let made = c .before .before .before .before .before .before .before .before .before .before .before .before in
-    stepping-less (made .before .before .before .loop .inv) (made .before .before .before .before .before .before .before .before .before .pre .0) (made .before .before .before .before .before .before .before .before .before .pre .1 .1 .0) (made .next .ensures) (c .before .if3 .left)
+    stepping-less (made .before .before .before .before .loop .inv .0) (made .before .before .before .before .before .before .before .before .before .before .pre .0) (made .before .before .before .before .before .before .before .before .before .before .pre .1 .1 .0) (made .next .ensures .0) (c .before .if3 .left)
 
 loop-again : tie.Need-loop-again Inv-loop μ-loop
 loop-again c =
     let made = c .before .before .before .before .before .before .before .before .before .before .before .before in
-    stepping-again (made .before .before .before .loop .inv) (made .before .before .before .before .before .before .before .before .before .pre .0) (made .before .before .before .before .before .before .before .before .before .pre .1 .1 .0) (made .next .ensures) (c .before .if3 .left) (made .next .kept .1 .1 .1 .1 .1 .1 .1 .1 .0)
+    (stepping-again (made .before .before .before .before .loop .inv .0) (made .before .before .before .before .before .before .before .before .before .before .pre .0) (made .before .before .before .before .before .before .before .before .before .before .pre .1 .1 .0) (made .next .ensures .0) (c .before .if3 .left) (made .next .kept .1 .1 .1 .1 .1 .1 .1 .1 .1 .0), made .next .ensures .1)
 
 pub write-steps-spec : {M : Type 1} → statement M
 write-steps-spec =

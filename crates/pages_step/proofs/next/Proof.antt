@@ -4,8 +4,8 @@ use Rattle.pages_step.proofs.next.Statement.{statement}
 use Rattle.pages_step.proofs.next.Tie as tie
 use Rattle.pages_step.proofs.Holding.{stepped}
 
-run-and-zeros-requires : tie.Need-run-and-zeros-requires
-run-and-zeros-requires c κs = search needs
+run-requires : tie.Need-run-requires
+run-requires c κs = search needs
 
 write-lines-requires : tie.Need-write-lines-requires
 write-lines-requires c κs = search needs
@@ -38,7 +38,7 @@ pub next-spec : {M : Type 1} → statement M
 next-spec =
     tie.close
     (tie.spec
-    run-and-zeros-requires
+    run-requires
     write-lines-requires
     is-drawn-requires
     one-if-requires

@@ -2,7 +2,7 @@
 use borrow.Author.Needs.{needs}
 use Rattle.pages_step.proofs.write_lines.Statement.{statement}
 use Rattle.pages_step.proofs.write_lines.Tie as tie
-use Rattle.pages_step.proofs.Holding.{step-run, step-end}
+use Rattle.pages_step.proofs.Holding.{step-told, step-end}
 
 write-last-requires : tie.Need-write-last-requires
 write-last-requires c κs = search needs
@@ -13,16 +13,26 @@ same-length c = search needs
 returns : tie.Need-returns
 returns c = search (step-end, needs)
 
-write-ran-requires : tie.Need-write-ran-requires
-write-ran-requires c κs = search needs
+write-marked-requires : tie.Need-write-marked-requires
+write-marked-requires c κs = search needs
+
+write-page-if-requires : tie.Need-write-page-if-requires
+write-page-if-requires c κs = search needs
 
 same-length-2 : tie.Need-same-length-2
 same-length-2 c = search needs
 
 returns-2 : tie.Need-returns-2
-returns-2 c = search (step-run, needs)
+returns-2 c = search (step-told, needs)
 
 pub write-lines-spec : {M : Type 1} → statement M
 write-lines-spec =
     tie.close
-    (tie.spec write-last-requires same-length returns write-ran-requires same-length-2 returns-2)
+    (tie.spec
+    write-last-requires
+    same-length
+    returns
+    write-marked-requires
+    write-page-if-requires
+    same-length-2
+    returns-2)
