@@ -6,14 +6,17 @@ use second::cases::{run_cases, CasesStopped};
 use second::leaves::run_leaves;
 use second::measure::{Measure, LONGEST_STREAM};
 use second::plain::translate;
-use second::report::{write_pages, write_report, write_trace, Stopped, LONGEST_REPORT_INPUT};
+use second::report::{
+    write_marks, write_pages, write_report, write_trace, Stopped, LONGEST_REPORT_INPUT,
+};
 use second::run::Refusal;
 use std::ffi::OsString;
 use std::fs::File;
 use std::io::{self, BufRead, BufReader, BufWriter, Read, Write};
 use std::process::ExitCode;
 
-const USAGE: &str = "usage: report | pages W H | plain W H | trace W H | cases FILE | leaves FILE";
+const USAGE: &str =
+    "usage: report | pages W H | plain W H | trace W H | marks W H | cases FILE | leaves FILE";
 
 /// Everything that does not end with exit status 0.
 enum Failure {
@@ -74,9 +77,10 @@ fn command(words: &[OsString]) -> Result<(), Failure> {
         (Some("pages"), [width, height]) => pages(measure(width, height)?),
         (Some("plain"), [width, height]) => plain(measure(width, height)?),
         (Some("trace"), [width, height]) => trace(measure(width, height)?),
+        (Some("marks"), [width, height]) => marks(measure(width, height)?),
         (Some("cases"), [file]) => answer_file(file, run_cases),
         (Some("leaves"), [file]) => answer_file(file, run_leaves),
-        (Some("report" | "pages" | "plain" | "trace" | "cases" | "leaves"), _) => Err(
+        (Some("report" | "pages" | "plain" | "trace" | "marks" | "cases" | "leaves"), _) => Err(
             Failure::Fault(format!("too few or too many words; {USAGE}")),
         ),
         _ => Err(Failure::Fault(format!("a word is wrong; {USAGE}"))),
@@ -113,8 +117,8 @@ fn read_input(limit: usize) -> Result<Vec<u8>, Failure> {
     Ok(bytes)
 }
 
-/// The stream of `pages`, `plain` and `trace`. A measure not allowed is refused
-/// before anything is read: 10 before 12.
+/// The stream of `pages`, `plain`, `trace` and `marks`. A measure not allowed is
+/// refused before anything is read: 10 before 12.
 fn read_stream(measure: Option<Measure>, goes_to: RefusalGoesTo) -> Result<Vec<u8>, Failure> {
     if measure.is_none() {
         return Err(Failure::Refused(Refusal::MeasureNotAllowed, goes_to));
@@ -146,18 +150,28 @@ fn report() -> Result<(), Failure> {
 }
 
 fn pages(measure: Option<Measure>) -> Result<(), Failure> {
-    let goes_to = RefusalGoesTo::StandardError;
-    let stream = read_stream(measure, goes_to)?;
-    let mut out = output();
-    write_pages(measure, &stream, &mut out).map_err(|stopped| failure(stopped, goes_to))?;
-    out.flush().map_err(cannot_write)
+    answer_stream(measure, RefusalGoesTo::StandardError, write_pages)
 }
 
 fn trace(measure: Option<Measure>) -> Result<(), Failure> {
-    let goes_to = RefusalGoesTo::StandardOutput;
+    answer_stream(measure, RefusalGoesTo::StandardOutput, write_trace)
+}
+
+fn marks(measure: Option<Measure>) -> Result<(), Failure> {
+    answer_stream(measure, RefusalGoesTo::StandardOutput, write_marks)
+}
+
+/// Reads a stream on a page of its own and writes what is asked of it.
+type WriteStream = fn(Option<Measure>, &[u8], &mut dyn Write) -> Result<(), Stopped>;
+
+fn answer_stream(
+    measure: Option<Measure>,
+    goes_to: RefusalGoesTo,
+    write_stream: WriteStream,
+) -> Result<(), Failure> {
     let stream = read_stream(measure, goes_to)?;
     let mut out = output();
-    write_trace(measure, &stream, &mut out).map_err(|stopped| failure(stopped, goes_to))?;
+    write_stream(measure, &stream, &mut out).map_err(|stopped| failure(stopped, goes_to))?;
     out.flush().map_err(cannot_write)
 }
 

@@ -1,4 +1,4 @@
-//! The report program, and the two writers like it: pages and trace.
+//! The report program, and the three writers like it: pages, trace and marks.
 
 use crate::dots::Sheet;
 use crate::measure::Measure;
@@ -181,6 +181,28 @@ pub fn write_trace(
     reading.write_last_page_line(out)?;
     write_end_state(out, &measure, &reading.state)?;
     writeln!(out, "COUNT\t{items}\t{findings}")?;
+    Ok(())
+}
+
+/// A line for each finding: its place, its number, and the cursor as its item
+/// began, before the item did anything.
+pub fn write_marks(
+    measure: Option<Measure>,
+    stream: &[u8],
+    out: &mut dyn Write,
+) -> Result<(), Stopped> {
+    let measure = admit(measure, stream)?;
+    let mut page = page_buffer(&measure);
+    let mut reading = Reading::start(measure, stream, &mut page);
+    while reading.has_item() {
+        // One item a run, so that the cursor before each is known.
+        let (x, y) = (reading.state.x, reading.state.y);
+        let ran = reading.run(1)?;
+        if let Some(found) = ran.found {
+            let number = found.finding.number();
+            writeln!(out, "{}\t{number}\t{x}\t{y}", found.place)?;
+        }
+    }
     Ok(())
 }
 

@@ -95,6 +95,20 @@ fn trace_lists_everything() {
 }
 
 #[test]
+fn marks_list_the_findings() {
+    let input = b"\x1b&a5C\x1b&f1S\x1b*t300R\x1b*r1A\x1b*b3m1W\xFF\x0C\x1b&f1S";
+    let expected = "5\t5\t3600\t4500\n27\t7\t3600\t4500\n31\t5\t3600\t4500\n";
+    let answer = call_for_text(&["marks", "640", "800"], input);
+    assert_eq!(answer, (0, expected.to_string(), String::new()));
+    // No finding: nothing.
+    assert_eq!(call(&["marks", "8", "1"], b""), (0, vec![], String::new()));
+    assert_eq!(
+        call(&["marks", "8", "1"], b"A\x0C\x1bE"),
+        (0, vec![], String::new())
+    );
+}
+
+#[test]
 fn pages_as_pictures() {
     let input = b"\x1b*p0Y\x1b*t300R\x1b*b1W\x81\x0C\x0C\x1b*p1Y\x1b*b2W\x42\xFF";
     let (status, out, error) = call(&["pages", "8", "3"], input);
@@ -131,10 +145,16 @@ fn refusals_of_the_words() {
         assert_eq!(call(&["pages", width, height], &long), on_error("10"));
         assert_eq!(call(&["plain", width, height], &long), on_error("10"));
         assert_eq!(call(&["trace", width, height], &long), on_output("10"));
+        assert_eq!(call(&["marks", width, height], &long), on_output("10"));
     }
     assert_eq!(call(&["pages", "640", "800"], &long), on_error("12"));
     assert_eq!(call(&["plain", "640", "800"], &long), on_error("12"));
     assert_eq!(call(&["trace", "640", "800"], &long), on_output("12"));
+    assert_eq!(call(&["marks", "640", "800"], &long), on_output("12"));
+    assert_eq!(
+        call(&["marks", "640", "800"], &long[1..]),
+        (0, vec![], String::new())
+    );
     assert_eq!(
         call(&["plain", "640", "800"], &long[1..]),
         (0, vec![], String::new())
@@ -147,7 +167,7 @@ fn refusals_of_the_words() {
 
 #[test]
 fn faults_of_the_words() {
-    let faults: [&[&str]; 24] = [
+    let faults: [&[&str]; 29] = [
         &[],
         &[""],
         &["reports"],
@@ -164,6 +184,11 @@ fn faults_of_the_words() {
         &["plain", "640.0", "800"],
         &["trace", "w", "h"],
         &["trace", "640", "eight"],
+        &["marks"],
+        &["marks", "640"],
+        &["marks", "640", "800", "1"],
+        &["marks", "w", "h"],
+        &["mark", "640", "800"],
         &["cases"],
         &["cases", "a", "b"],
         &["cases", "no-such-file-of-cases"],
