@@ -19,13 +19,7 @@ pub fn write_marked(place: usize, f: Finding, began: Spot, room: &mut [u8], at: 
     if n == 0 {
         return behind;
     }
-    write_four(
-        b"MARK",
-        place,
-        n,
-        began.x as usize,
-        began.y as usize,
-        room,
-        behind,
-    )
+    let x = began.x as usize;
+    let y = began.y as usize;
+    write_four(b"MARK", place, n, x, y, room, behind)
 }

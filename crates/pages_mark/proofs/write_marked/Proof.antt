@@ -19,14 +19,14 @@ same-length c = search needs
 returns : tie.Need-returns
 returns c = search (wrote-unmarked, needs)
 
+cast-x : tie.Need-cast-x
+cast-x c = search needs
+
+cast-y : tie.Need-cast-y
+cast-y c = search needs
+
 slice-aggregate-write-four : tie.Need-slice-aggregate-write-four
 slice-aggregate-write-four c = search needs
-
-cast-write-four : tie.Need-cast-write-four
-cast-write-four c = search needs
-
-cast-write-four-2 : tie.Need-cast-write-four-2
-cast-write-four-2 c = search needs
 
 write-four-requires : tie.Need-write-four-requires
 write-four-requires c κs = search needs
@@ -46,9 +46,9 @@ write-marked-spec =
     cast-n
     same-length
     returns
+    cast-x
+    cast-y
     slice-aggregate-write-four
-    cast-write-four
-    cast-write-four-2
     write-four-requires
     same-length-2
     returns-2)
