@@ -39,24 +39,29 @@ def found(pattern):
     return sorted(os.path.relpath(path, ROOT) for path in glob.glob(os.path.join(ROOT, pattern), recursive=True))
 
 
+def declared_in(path):
+    """The names that a file of specs/ declares: signatures, records, fields, data types and their constructors."""
+    words = set(re.findall(r"^\s*(?:unfoldable |abbrev |pub )*(?:record |data )?([^\s:(]+)[^\n:]*:", text(path), re.M))
+    return words | {word for line in re.findall(r"^  ([^\n:=]+) :", text(path), re.M) for word in line.split()}
+
+
 def declared():
-    """The names that each file of specs/ declares: signatures, records, fields, data types and their constructors."""
+    """The names that the files of specs/ declare, by file."""
     names = {}
     for path in found("crates/*/specs/*.antt"):
-        words = set(re.findall(r"^\s*(?:unfoldable |abbrev |pub )*(?:record |data )?([^\s:(]+)[^\n:]*:", text(path), re.M))
-        words |= {word for line in re.findall(r"^  ([^\n:=]+) :", text(path), re.M) for word in line.split()}
-        names.setdefault(os.path.basename(path)[:-5], set()).update(words)
+        names.setdefault(os.path.basename(path)[:-5], set()).update(declared_in(path))
     names["types"] = set(re.findall(r"\b(?:struct|enum) (\w+)", text("crates/rules/src/lib.rt")))
     return names
 
 
+def functions_in(path):
+    """The functions of a source file."""
+    return set(re.findall(r'^(?:pub )?(?:extern "C" )?fn (\w+)', text(path), re.M))
+
+
 def functions():
     """The functions of each crate, as crate::name."""
-    names = set()
-    for path in found("crates/*/src/**/*.rt"):
-        crate = path.split(os.sep)[1]
-        names |= {"%s::%s" % (crate, name) for name in re.findall(r'^(?:pub )?(?:extern "C" )?fn (\w+)', text(path), re.M)}
-    return names
+    return {"%s::%s" % (path.split(os.sep)[1], name) for path in found("crates/*/src/**/*.rt") for name in functions_in(path)}
 
 
 def without_contract():
@@ -158,4 +163,5 @@ def main():
     sys.exit(1 if wrong or rows < LEAST_ROWS else 0)
 
 
-main()
+if __name__ == "__main__":
+    main()
