@@ -4,7 +4,7 @@
 Named jobs first, each finding that can be repeated among them; BEFORE ('-': none) is an earlier version, which runs beside it on those. Then every
 byte, and every two of the bytes that the rules tell apart, in turns. The time is what the processor did for that process. Pages go nowhere, lines to a file
 of FOLDER. A byte that marks the page used and FF in turns is not run: half a million pages of a megabyte must be written. Exit status 1 where a job takes
-more than LIMIT seconds.
+more than LIMIT seconds and has not more than MANY pages to be written.
 """
 
 import os
@@ -13,6 +13,7 @@ import sys
 
 LONGEST = 1048576
 LIMIT = 2.0
+MANY = 1000
 PAGE = ("2552", "3304")
 FORM_FEED = 12
 # A beginning, and what is repeated behind it up to the limit.
@@ -66,7 +67,8 @@ def named(now, before, folder):
         seconds, findings, pages = run(now, folder, job)
         line = f"| {name} | {findings:,} | {pages:,} | {seconds:.2f} |"
         print(line + (f" {run(before, folder, job)[0]:.2f} |" if before else ""), flush=True)
-        yield seconds, name
+        if pages <= MANY:
+            yield seconds, name
 
 
 def shown(job):
@@ -78,33 +80,37 @@ def marks_used(byte):
     return byte > 32 and byte != 127
 
 
-def bytes_alone(now, folder):
+def bytes_alone():
     for byte in range(256):
-        yield run(now, folder, job_of(b"", bytes([byte])))[0], shown([byte])
+        yield [byte]
 
 
-def in_turns(now, folder):
+def in_turns():
     for first in APART:
         for second in APART:
             if first != second and not (FORM_FEED in (first, second) and marks_used(max(first, second))):
-                yield run(now, folder, job_of(b"", bytes([first, second])))[0], shown([first, second])
+                yield [first, second]
 
 
-def slowest(title, times):
-    times = sorted(times, reverse=True)
-    above = sum(seconds > LIMIT for seconds, _ in times)
-    said = ", ".join(f"{name} {seconds:.2f}" for seconds, name in times[:3])
-    print(f"| {title} | {len(times):,} | {said} | {above} |", flush=True)
-    return above
+def slowest(title, now, folder, jobs):
+    """A line with the slowest jobs that have few pages, and the slowest of those with many; how many of the first are above the limit."""
+    few, many = [], []
+    for job in jobs:
+        seconds, _, pages = run(now, folder, job_of(b"", bytes(job)))
+        (few if pages <= MANY else many).append((seconds, shown(job)))
+    few.sort(reverse=True)
+    said = [", ".join(f"{name} {seconds:.2f}" for seconds, name in times) for times in (few[:3], sorted(many)[-1:])]
+    print(f"| {title} | {len(few):,} | {said[0]} | {len(many)} | {said[1]} |", flush=True)
+    return sum(seconds > LIMIT for seconds, _ in few)
 
 
 def main(folder, program, before, *emulator):
     now = [*emulator, program]
     print("## Jobs that are all faults\n")
     slow = sum(seconds > LIMIT for seconds, _ in named(now, [*emulator, before] if before != "-" else None, folder))
-    print("\n| Bytes repeated up to 1 MB | Jobs | The slowest, seconds | Above 2 s |\n|---|---|---|---|")
-    slow += slowest("one byte", bytes_alone(now, folder))
-    slow += slowest("two bytes in turns", in_turns(now, folder))
+    print("\n| Bytes repeated up to 1 MB | Jobs | The slowest, seconds | Jobs of many pages | The slowest, seconds |\n|---|---|---|---|---|")
+    slow += slowest("one byte", now, folder, bytes_alone())
+    slow += slowest("two bytes in turns", now, folder, in_turns())
     return 1 if slow else 0
 
 
