@@ -4,7 +4,8 @@
 The streams are real ones (tests/vectors/corpus), each again and again, in whole
 copies, up to 1,048,576 bytes. Both programs take turns, and the least time of
 each counts: what the processor did for that process, as others may work beside
-it. Pages, by SHA-256, and lines must be the same. FOLDER is for the streams.
+it. Pages, by SHA-256, and lines must be the same; MARK lines are set aside: an
+earlier version may have none. FOLDER is for the streams.
 """
 
 import hashlib
@@ -44,11 +45,15 @@ def repeated(name):
     return once * (LONGEST // len(once))
 
 
+def unmarked(lines):
+    return [line for line in lines.splitlines() if not line.startswith(b"MARK\t")]
+
+
 def outcome(command, path):
     """The SHA-256 of a program's pages, and its lines."""
     with open(path, "rb") as job:
         done = subprocess.run([*command, *PAGE], stdin=job, capture_output=True, check=True)
-    return hashlib.sha256(done.stdout).digest(), done.stderr
+    return hashlib.sha256(done.stdout).digest(), unmarked(done.stderr)
 
 
 def time_of(command, path, expected):
@@ -58,7 +63,7 @@ def time_of(command, path, expected):
         _, status, usage = os.wait4(child.pid, 0)
         child.returncode = os.waitstatus_to_exitcode(status)
         lines.seek(0)
-        if child.returncode != 0 or lines.read() != expected:
+        if child.returncode != 0 or unmarked(lines.read()) != expected:
             raise Different
     return usage.ru_utime + usage.ru_stime
 
@@ -71,7 +76,7 @@ def line_of(name, path, before, after):
     if outcome(after, path) != (digest, lines):
         raise Different
     times = [(time_of(before, path, lines), time_of(after, path, lines)) for _ in range(TURNS)]
-    pages = sum(line.startswith(b"PAGE\t") for line in lines.splitlines())
+    pages = sum(line.startswith(b"PAGE\t") for line in lines)
     ratio = min(first for first, _ in times) / min(second for _, second in times)
     return f"| {name.removesuffix('.xz')} | {len(job)} | {pages} | {ratio:.2f} |"
 

@@ -29,8 +29,8 @@ has new/folder findings.txt page-1.png page-2.png
 right "does not say the finding" grep -qx 'finding 5, push when full, pop when empty: 1, the first at place 0' printed
 right "findings.txt lacks the finding" grep -qx 'place 0, page 1: finding 5, push when full, pop when empty. The command was left out.' new/folder/findings.txt
 right "findings.txt lacks the end" grep -qx 'End: x 720, y 4500 (1/7200 inch), stack depth 0, findings 1' new/folder/findings.txt
-printf 'SIZE\t640\t800\nFAULT\t0\t5\nPAGE\t1\t9\nPAGE\t2\t0\nEND\t720\t4500\t0\t1\n' >wanted
-right "findings.txt has other lines" cmp -s wanted <(tail -n 5 new/folder/findings.txt)
+printf 'SIZE\t640\t800\nFAULT\t0\t5\nMARK\t0\t5\t0\t4500\nPAGE\t1\t9\nPAGE\t2\t0\nEND\t720\t4500\t0\t1\n' >wanted
+right "findings.txt has other lines" cmp -s wanted <(tail -n 6 new/folder/findings.txt)
 
 # A folder tells of one job: nothing of an earlier one stays, other files do.
 echo mine >new/folder/page-1.txt
@@ -143,6 +143,22 @@ has broken
 said="a line that it has no word for"
 tool sh -c 'printf "UNWRITTEN\n" >&2'
 refuses "not written: the program broke off: UNWRITTEN"
+# A finding has one mark, right behind it: not none, not another's, not two; and a mark has a finding.
+while read -r lines strange; do
+  said="lines $lines"
+  tool sh -c "printf 'SIZE\\t640\\t800\\n$lines' >&2"
+  refuses "not written: the program broke off: $(printf "$strange")"
+done <<'LINES'
+FAULT\t0\t5\nEND\t0\t0\t0\t1\n END\t0\t0\t0\t1
+FAULT\t0\t5\n no last line
+FAULT\t0\t5\nMARK\t1\t5\t0\t0\nEND\t0\t0\t0\t1\n MARK\t1\t5\t0\t0
+FAULT\t0\t5\nMARK\t0\t4\t0\t0\nEND\t0\t0\t0\t1\n MARK\t0\t4\t0\t0
+FAULT\t0\t5\nMARK\t0\t5\t0\nEND\t0\t0\t0\t1\n MARK\t0\t5\t0
+FAULT\t0\t5\nMARK\t0\t5\t0\t0\nMARK\t0\t5\t0\t0\nEND\t0\t0\t0\t1\n MARK\t0\t5\t0\t0
+FAULT\t0\t5\nFAULT\t1\t5\nMARK\t0\t5\t0\t0\nMARK\t1\t5\t0\t0\nEND\t0\t0\t0\t2\n FAULT\t1\t5
+MARK\t0\t5\t0\t0\nEND\t0\t0\t0\t0\n MARK\t0\t5\t0\t0
+LINES
+has broken
 said="a program that is not there"
 tool ./nowhere
 refuses "not written: No such file or directory: ./nowhere"

@@ -3,8 +3,8 @@
 
     drawn.py FOLDER COMMAND PAGES..    COMMAND is rovinuset, PAGES runs the proved program `pages`
 
-The PNG files are decoded here, by other lines than those that write them, and must be the pages that the program itself gives. A line for each
-difference, then the count. Exit status 1 on any difference, or if the folder has not the streams of the table.
+The PNG files are decoded here, by other lines than those that write them, and must be the pages that the program itself gives; findings.txt must have
+the lines that it says. A line for each difference, then the count. Exit status 1 on any difference, or if the folder has not the streams of the table.
 """
 
 import hashlib
@@ -69,7 +69,9 @@ def drawn(command, program, stream, lines, room):
     if sorted(os.listdir(folder)) != sorted([*names, "findings.txt"]):
         return ["the folder has other files"], 0
     pages = [decoded(os.path.join(folder, name)) for name in names]
-    return [*by_table(pages, lines), *by_program(program, stream, pages), *told(folder, lines)], count
+    with open(os.path.join(folder, "findings.txt"), encoding="utf-8") as file:
+        text = file.read()
+    return [*by_table(pages, lines), *by_program(program, stream, pages, text), *told(text.splitlines(), lines)], count
 
 
 def by_table(pages, lines):
@@ -80,19 +82,19 @@ def by_table(pages, lines):
             yield f"page {number}: {dots} dots, hash {digest}, not the table's"
 
 
-def by_program(program, stream, pages):
+def by_program(program, stream, pages, text):
     words = [*program, str(corpus.WIDTH), str(corpus.HEIGHT)]
-    given = subprocess.run(words, input=stream, stdout=subprocess.PIPE, stderr=subprocess.DEVNULL).stdout
-    if given != b"".join(corpus.HEADER + page for page in pages):
+    given = subprocess.run(words, input=stream, stdout=subprocess.PIPE, stderr=subprocess.PIPE)
+    if given.stdout != b"".join(corpus.HEADER + page for page in pages):
         yield "the pictures are not the program's pages"
+    if text.partition("The program's own lines:\n")[2] != given.stderr.decode():
+        yield "findings.txt has not the program's own lines"
 
 
-def told(folder, lines):
-    """findings.txt names each finding once in words, and once as the program's own line."""
-    with open(os.path.join(folder, "findings.txt"), encoding="utf-8") as file:
-        text = file.read().splitlines()
-    words = sum(line.startswith("place ") for line in text), sum(line.startswith("FAULT\t") for line in text)
-    if words != (int(lines[0]["findings"]),) * 2:
+def told(text, lines):
+    """findings.txt names each finding once in words, and once by each of the program's two lines."""
+    words = tuple(sum(line.startswith(word) for line in text) for word in ("place ", "FAULT\t", "MARK\t"))
+    if words != (int(lines[0]["findings"]),) * 3:
         yield f"findings.txt has {words} findings"
 
 

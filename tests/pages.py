@@ -1,9 +1,9 @@
 #!/usr/bin/env python3
-"""pages.py PROGRAM SECOND [COUNT [SEED]]: the program `pages` against the second program, byte for byte: the pages, and the lines of the report.
+"""pages.py PROGRAM SECOND [COUNT [SEED]]: the program `pages` against the second program, byte for byte: the pages, and the lines.
 
 Both read the streams of tests/reports.py, COUNT (200) of them generated, each on one of several pages, the largest and the least among them, and streams of
-lengths around the limit. The second program's lines come from its `trace`. One line for each difference, last a line with the counts; exit status 1 on any
-difference, or where a kind of line never came up.
+lengths around the limit. The second program's lines come from its `trace` and, behind each finding, from its `marks`. One line for each difference, last a line
+with the counts; exit status 1 on any difference, or where a kind of line never came up.
 """
 import subprocess
 import sys
@@ -21,25 +21,25 @@ def output(words, given):
     return done.stdout, done.stderr
 
 
-def lines_of(trace, width, height):
-    """The lines of the report, from the items, pages and end of a trace."""
+def lines_of(trace, marks, width, height):
+    """The lines, from the items, pages and end of a trace, and a mark for each finding. A mark without a finding is a line at the end."""
     lines, findings = [b"SIZE\t%d\t%d" % (width, height)], 0
+    marks = iter(b"MARK\t" + mark for mark in marks.splitlines() if not mark.startswith(b"REFUSED"))
     for line in trace.splitlines():
         word, *fields = line.split(b"\t")
         if word == b"ITEM" and fields[2] != b"0":
             findings += 1
-            lines.append(b"FAULT\t" + fields[0] + b"\t" + fields[2])
+            lines += [b"FAULT\t" + fields[0] + b"\t" + fields[2], next(marks, b"no mark")]
         elif word in (b"PAGE", b"REFUSED"):
             lines.append(line)
         elif word == b"END":
             lines.append(b"\t".join([b"END", fields[0], fields[1], fields[13], b"%d" % findings]))
-    return b"".join(line + b"\n" for line in lines)
+    return b"".join(line + b"\n" for line in [*lines, *marks])
 
 
 def expected(second, measure, given):
-    pages, _ = output([second, "pages"] + measure.split(), given)
-    trace, _ = output([second, "trace"] + measure.split(), given)
-    return pages, lines_of(trace, *map(int, measure.split()))
+    pages, trace, marks = (output([second, mode] + measure.split(), given)[0] for mode in ("pages", "trace", "marks"))
+    return pages, lines_of(trace, marks, *map(int, measure.split()))
 
 
 def refusals(program):
@@ -65,7 +65,7 @@ def main():
     count = int(sys.argv[3]) if len(sys.argv) > 3 else 200
     seed = int(sys.argv[4]) if len(sys.argv) > 4 else 1
     done = differ = 0
-    missing = set(reports.WANTED)
+    missing = reports.WANTED | {b"MARK"}
     for name, job, measure in jobs(count, seed):
         theirs = expected(sys.argv[2], measure, job)
         missing -= reports.kinds(theirs[1])

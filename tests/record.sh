@@ -1,6 +1,6 @@
 #!/usr/bin/env bash
-# ./rovinuset record: what a browser shows of the records, exit statuses, wrong words, and disks that are full. A line for each failed check,
-# then the count. Exit status 1 on a failure. record.sh pictures writes the pictures of docs/ instead.
+# ./rovinuset record: what a browser shows of the records and the second program says of their marks, exit statuses, wrong words, and disks that
+# are full. A line for each failed check, then the count. Exit status 1 on a failure. record.sh pictures writes the pictures of docs/ instead.
 set -eu
 cd "$(dirname "$0")/.."
 export LC_ALL=C
@@ -35,8 +35,9 @@ right "not as make.py makes it" python3 -B tests/vectors/damaged/make.py --check
 said="the flat curve"
 right "not as flat.py makes it" python3 -B tests/vectors/damaged/flat.py --check
 said="the browser"
+(cd second && cargo build --release --offline --quiet)
 mkdir "$room/browser"
-right "shows something else" python3 -B tests/recorded.py shown chromium "$root/rovinuset" "$room/browser"
+right "shows something else" python3 -B tests/recorded.py shown chromium "$root/rovinuset" "$root/second/target/release/second" "$room/browser"
 cd "$room" # it works from anywhere
 for record in browser/*.pcl.html; do
   said="tidy: $record"

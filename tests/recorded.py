@@ -1,8 +1,8 @@
 #!/usr/bin/env python3
 """Opens records in a browser and checks what it shows.
 
-    recorded.py shown BROWSER ROVINUSET FOLDER      the records go to this folder
-    recorded.py pictures BROWSER RECORD FOLDER      a picture of a record at each of the two widths goes to this folder
+    recorded.py shown BROWSER ROVINUSET SECOND FOLDER   the records go to this folder; SECOND is the second program
+    recorded.py pictures BROWSER RECORD FOLDER          a picture of a record at each of the two widths goes to this folder
 
 The browser has a copy of each record with a script at its end that says what is on the page: pictures as the browser decoded them, rows, marks
 and where they lie, links and what they lead to, and everything that would be fetched. The copy is in a frame of the width that is asked for, as a
@@ -27,13 +27,14 @@ VECTORS = os.path.join(HERE, "vectors")
 sys.path.insert(0, os.path.join(VECTORS, "damaged"))
 import drawn  # noqa: E402
 import make  # noqa: E402
+import marked  # noqa: E402
 
 WIDTHS = (400, 1400)
 PROBE = """<script>
 addEventListener('load', () => {
   const all = found => [...document.querySelectorAll(found)];
   const box = one => one.getBoundingClientRect();
-  const links = all('a').map(one => one.getAttribute('href'));
+  const links = all('a[href]').map(one => one.getAttribute('href'));
   const ids = all('[id]').map(one => one.id);
   parent.postMessage(JSON.stringify({
     width: innerWidth,
@@ -42,10 +43,12 @@ addEventListener('load', () => {
     pictures: all('img').map(one => [one.complete, one.naturalWidth, one.naturalHeight]),
     seen: all('img').filter(one => box(one).width > 0).map(one => [one.className, Math.round(box(one).width), Math.round(box(one).height)]),
     rows: all('#list tbody tr').map(one => one.id),
+    places: all('#list tbody tr').map(one => [one.cells[3].innerText, one.cells[3].querySelector('a')?.getAttribute('href') ?? null]),
     kinds: all('#kinds tbody tr').map(one => Number(one.cells[2].innerText.replace(/[^0-9]/g, ''))),
     marks: all('.mark').map(one => {
       const picture = box(one.parentNode.querySelector('.picture'));
-      return [one.id, one.getAttribute('href'), (box(one).top - picture.top) / picture.height, picture.left - box(one).right];
+      const leads = [one.closest('figure').id, one.id, one.getAttribute('href'), one.title, one.getAttribute('aria-label')];
+      return [...leads, (box(one).top - picture.top) / picture.height, picture.left - box(one).right];
     }),
     cut: all('.mark span').filter(one => box(one).left < box(one.closest('.sheet')).left).map(one => one.innerText),
     links: links.length,
@@ -73,12 +76,17 @@ class Checks:
             self.failed += 1
             print(f"record: {what}: wanted {wanted}, given {given}")
 
+    def same(self, what, wanted, given):
+        """Two lists, which may be long: only the first difference is told."""
+        at = next((at for at, (one, other) in enumerate(zip(wanted, given)) if one != other), min(len(wanted), len(given)))
+        self.right(f"{what}, from {at} on", [len(wanted), wanted[at : at + 1]], [len(given), given[at : at + 1]])
+
 
 class Records:
     """Records made by the command, and what a browser shows of them."""
 
-    def __init__(self, browser, command, folder):
-        self.browser, self.command, self.folder = browser, command, folder
+    def __init__(self, browser, command, second, folder):
+        self.browser, self.command, self.second, self.folder = browser, command, second, folder
         self.checks = Checks()
 
     def path(self, name):
@@ -153,16 +161,34 @@ def damaged_curve(records):
         right("as many rows as findings", [f"finding-{number}" for number in range(1, 10)], facts["rows"])
         right("links: four to the parts, three of the page, a mark and a line for each finding", 4 + 3 + 9 + 9, facts["links"])
         right("counts by number", [0, 0, 0, 0, 0, 0, 9], facts["kinds"])
-        right("marks and what they lead to", [(f"mark-{n}", f"#finding-{n}") for n in range(1, 10)], [tuple(one[:2]) for one in facts["marks"]])
-        right("links back", [f"#mark-{n}" for n in range(1, 10)], re.findall(r'<td data-label="On the page"><a href="(#mark-\d+)">', text))
+        names = [f"page-1-row-{row}" for row in rows]
+        right("marks and what they lead to", [[name, f"#finding-{n}"] for n, name in enumerate(names, 1)], [one[1:3] for one in facts["marks"]])
+        right("links back", [f"#{name}" for name in names], [leads for _, leads in facts["places"]])
         right("rows said", rows, [int(row.replace(",", "")) for row in re.findall(r'">page 1, dot row ([\d,]+)', text)])
-        apart = [abs(one[2] * 3304 - row) for one, row in zip(facts["marks"], rows)]
-        right("marks lie beside their rows", True, max(apart) < 12)  # a dot of the screen is up to eight of the page
-        right("marks lie in the margin", True, all(-2 <= one[3] <= 2 for one in facts["marks"]))
+        by_second(records, name, job, facts)
     for width in WIDTHS:
         full = records.shown(name, text, width, "#page-1-full")
         right("full size", [["full", 2552, 3304]], full["seen"])
     no_dot_lost(right, text)
+
+
+def by_second(records, name, job, facts, width=2552, height=3304):
+    """Each damaged row of a shown page is marked once, on its page and where the second program says; and so says the table of each finding."""
+    right, same, told = records.checks.right, records.checks.same, marked.Marked(records.second, job, width, height)
+    listed, marks = told.listed(), told.marks()
+    in_table = {one.number for one in listed}
+    same(f"{name}: rows of the table", [f"finding-{one.number}" for one in listed], facts["rows"])
+    same(f"{name}: places", [list(told.where(one)) for one in listed], facts["places"])
+    wanted = []
+    for page, row, group in marks:
+        first, said = group[0], told.title(group)
+        leads = [f"page-{page}-row-{row}", f"#finding-{first.number}", said, said] if first.number in in_table else ["", None, said, None]
+        wanted.append([f"page-{page}", *leads])
+    same(f"{name}: marks", wanted, [one[:5] for one in facts["marks"]])
+    dot = max(high for _, _, high in facts["seen"]) / height  # dots of the screen to one of the page
+    apart = [abs(one[5] * height - row) * dot for one, (_, row, _) in zip(facts["marks"], marks)]
+    right(f"{name}: marks lie beside their rows", True, max(apart, default=0) < 1.5)
+    right(f"{name}: marks lie in the margin", True, all(-2 <= one[6] <= 2 for one in facts["marks"]))
 
 
 def no_dot_lost(right, text):
@@ -183,14 +209,23 @@ def greys(picture):
 
 
 def rows_elsewhere(records):
-    """Damaged rows in an open sequence, on the next page, moved there by a command, and below the foot: where they lie is said of each."""
-    job = b"\x1b*b2m1w\x051W\x05\f\x1b*p300Y\x1b*b1W\x05\x1b*p9999Y\x1b*b1W\x05"
+    """Damaged rows in an open sequence, on the next page, moved there by a command, and below the foot: where they lie is said of each; and of other
+    findings, one of them behind the last page."""
+    job = b"\x1b*b2m1w\x051W\x05\f\x1b*p300Y\x1b*b1W\x05\x1b*p9999Y\x1b*b1W\x05\x1b&f1S\f\x1b&f1S"
     text = records.make("elsewhere.pcl", job, 1)
-    said = re.findall(r'<a href="#mark-\d">(.*?)</a>', text)
+    said = re.findall(r'<a href="#page-\d-row-\d+">(.*?)</a>', text)
     where = ["page 1, dot row 187, 15.9 mm from the top", "page 1, dot row 191, 16.2 mm from the top"]
     where += ["page 2, dot row 450, 38.1 mm from the top", "page 2, below the page's foot"]
     records.checks.right("elsewhere: rows", where, said)
-    records.shown("elsewhere", text, 400)
+    by_second(records, "elsewhere", job, records.shown("elsewhere", text, 400))
+
+
+def flat_curve(records):
+    """The curve of the incident: 230 damaged rows, one after the other."""
+    job = vector("damaged", "flat-curve.pcl")
+    facts = records.shown("flat", records.make("flat.pcl", job, 1), 1400)
+    records.checks.right("flat: marks", 230, len(facts["marks"]))
+    by_second(records, "flat", job, facts)
 
 
 def end_states(records):
@@ -222,18 +257,38 @@ def many_findings(records):
 
 
 def many_pages(records):
-    """Damaged rows on a late page: its picture is there, the first rows are marked, and what is left out is said."""
+    """Damaged rows on a late page: its picture is there, each row is marked, and those below the foot share a mark."""
     right = records.checks.right
-    job = b"A\f" * 60 + b"\x1b*b2M" + b"\x1b*b1W\x05" * 350 + b"\f"
+    job = b"A\x1b&f1S\f" * 60 + b"\x1b*b2M" + b"\x1b*b1W\x05" * 350 + b"\f"
     text = records.make("pages.pcl", job, 1, "640", "800")
     facts = records.shown("pages", text, 1400)
     records.shown("pages", text, 400)
     right("pages: pictures", 40, len(facts["seen"]))
     right("pages: the damaged page", True, 'id="page-61"' in text)
-    right("pages: marks", 300, len(facts["marks"]))
-    right("pages: rows", 350, len(facts["rows"]))
-    for said in ("Of 61 pages 40 are shown here", "300 of 350 damaged rows, the first ones, are marked in the margins."):
+    right("pages: marks", 154 + 1, len(facts["marks"]))  # dot rows 187, 191, .. 799, and the foot
+    right("pages: the last mark", ["findings 215 to 410, damaged rows, below the page's foot"], [one[3] for one in facts["marks"][-1:]])
+    right("pages: rows", 410, len(facts["rows"]))
+    right("pages: one that is not shown", ["page 60, dot row 187, 15.9 mm from the top", None], facts["places"][59])
+    for said in ("Of 61 pages 40 are shown here", "350 damaged rows, marked in the margin by the number of the finding"):
         right("pages: said", True, said in facts["text"])
+    by_second(records, "pages", job, facts, 640, 800)
+
+
+def many_rows(records):
+    """More damaged rows than the table holds, on more pages than are shown: each row of these pages is marked. Some share a dot row: they lie a part of
+    a dot apart, or the cursor went back there behind another finding."""
+    right, row = records.checks.right, b"\x1b*b1W\x05"
+    page = b"\x1b*rC\x1b*t300R\x1b*b2M" + row * 400 + b"\x1b&f1S" + (b"\x1b&a-44V" + row * 2) * 3 + b"\x1b*p300Y" + row * 360 + b"\f"
+    found = 45 * (766 + 1)
+    text = records.make("rows.pcl", page * 45, 1, "640", "800")
+    for width in WIDTHS:
+        facts = records.shown("rows", text, width)
+        by_second(records, "rows", page * 45, facts, 640, 800)
+        right("rows: the dot rows from 187 on and the foot of each page", 40 * (800 - 187 + 1), len(facts["marks"]))
+        right("rows: in the table", 2000 + 1, len(facts["rows"]))
+        right("rows: counts", [45, 0, 45 * 766], facts["kinds"][4:])
+        right("rows: said", True, f"{found - 2001:,} of {found:,} findings are not in this list." in facts["text"])
+        right("rows: nothing is said to be left out of the margins", False, "in the margins" in facts["text"])
 
 
 def refused_and_named(records):
@@ -245,9 +300,9 @@ def refused_and_named(records):
     right("a name with signs of HTML", True, f"Record of {name}" in facts["text"])
 
 
-def shown(browser, command, folder):
-    records = Records(browser, command, folder)
-    for each in (damaged_curve, rows_elsewhere, end_states, many_findings, many_pages, refused_and_named):
+def shown(browser, command, second, folder):
+    records = Records(browser, command, second, folder)
+    for each in (damaged_curve, rows_elsewhere, flat_curve, end_states, many_findings, many_pages, many_rows, refused_and_named):
         each(records)
     print(f"record: {records.checks.done} checks in the browser, {records.checks.failed} failed")
     return 1 if records.checks.failed else 0

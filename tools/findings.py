@@ -47,20 +47,29 @@ def counted(count, one, more, form=""):
 
 
 class Lines:
-    """What a program said: FAULT, PAGE, END and REFUSED lines, taken one by one. A job has up to a million findings, so arrays."""
+    """What the program `pages` said, line by line: FAULT with its MARK, PAGE, END and REFUSED. A job has up to a million findings, so arrays."""
 
     def __init__(self):
         self.places, self.numbers = array("L"), bytearray()
+        self.x, self.y = array("L"), array("L")  # the cursor as the finding's item began
         self.dots, self.found_before = array("L"), array("L")  # for each page: its dots, findings up to its end
-        self.end = self.refused = self.strange = None  # strange: a line of another form
+        self.end = self.refused = self.strange = None  # strange: the first line of another form, or out of place
 
     def take(self, line):
         word, *fields = line.rstrip("\n").split("\t")
         numbers = [int(field) for field in fields if field.isdigit()]
-        form = (word, len(fields), len(numbers))
+        marks = len(self.x) < len(self.places)  # behind FAULT its MARK comes, and nothing else
+        if marks != (word == "MARK") or not self.taken((word, len(fields), len(numbers)), numbers):
+            self.strange = line.rstrip("\n") if self.strange is None else self.strange
+
+    def taken(self, form, numbers):
+        """Whether it is a line of these forms, which is then kept."""
         if form == ("FAULT", 2, 2) and numbers[1] in FINDINGS:
             self.places.append(numbers[0])
             self.numbers.append(numbers[1])
+        elif form == ("MARK", 4, 4) and numbers[:2] == [self.places[-1], self.numbers[-1]]:
+            self.x.append(numbers[2])
+            self.y.append(numbers[3])
         elif form == ("PAGE", 2, 2) and numbers[0] == len(self.dots) + 1:
             self.dots.append(numbers[1])
             self.found_before.append(len(self.places))
@@ -68,18 +77,23 @@ class Lines:
             self.end = tuple(numbers)
         elif form == ("REFUSED", 1, 1) and numbers[0] in REFUSALS:
             self.refused = numbers[0]
-        elif form != ("SIZE", 2, 2):
-            self.strange = line.rstrip("\n")
+        else:
+            return form == ("SIZE", 2, 2)
+        return True
 
     def whole(self):
-        """Whether the program came to its end and counts as many findings as it named."""
-        if self.strange is not None:
+        """Whether the program came to its end, counts as many findings as it named, and marked each."""
+        if self.strange is not None or len(self.x) < len(self.places):
             return False
         return self.refused is not None or (self.end is not None and self.end[3] == len(self.places))
 
     def page_of(self, index):
         """The page that the finding is on, counted from 1; one more than there are pages if it comes after the last."""
         return bisect_right(self.found_before, index) + 1
+
+    def on_page(self, number):
+        """The findings on this page, which is counted from 1."""
+        return range(self.found_before[number - 2] if number > 1 else 0, self.found_before[number - 1])
 
     def counts(self):
         """How many of each finding there are, for those there are."""
@@ -107,7 +121,10 @@ def raw(width, height, lines):
 
 
 def faults(lines, start, end):
-    return (f"FAULT\t{lines.places[index]}\t{lines.numbers[index]}" for index in range(start, end))
+    for index in range(start, end):
+        said = f"{lines.places[index]}\t{lines.numbers[index]}"
+        yield f"FAULT\t{said}"
+        yield f"MARK\t{said}\t{lines.x[index]}\t{lines.y[index]}"
 
 
 def summary(lines):

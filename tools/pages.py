@@ -1,6 +1,7 @@
 """The proved program `pages`, run on a job: its pages one after the other, and its lines."""
 
 import hashlib
+import io
 import subprocess
 import threading
 
@@ -85,8 +86,7 @@ def lines_of(command, width, height, job):
         [*command, str(width), str(height)], input=job, stdout=subprocess.DEVNULL, stderr=subprocess.PIPE
     )
     lines = findings.Lines()
-    for line in done.stderr.decode("ascii", "replace").splitlines():
-        lines.take(line)
+    listen(io.BytesIO(done.stderr), lines)
     if not lines.whole():
         raise Broken(lines.strange or "no last line")
     return lines

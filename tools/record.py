@@ -23,7 +23,8 @@ import recordhtml
 ROOT = os.path.dirname(os.path.dirname(os.path.abspath(__file__)))
 # What a record holds at most. What it leaves out, it says.
 PICTURES = 40
-MARKS = 300
+LISTED = 500  # findings in the table, the first ones
+ROWS_LISTED = 2000  # and damaged rows, the first ones
 FORM_FEED = b"\f"
 # The widest picture, in dots of the screen, in a wide window and in one of 400.
 ROOM = {"fit": 1050, "narrow": 330}
@@ -39,7 +40,7 @@ class Facts:
         self.digests, self.all_pages = [], hashlib.sha256()
         self.damaged = Counter()  # damaged rows by page number
         self.pictures = {}  # by page number: for each use, what it is reduced by and the PNG
-        self.marks = {}  # by finding: where its damaged row lies, from the page's top
+        self.listed = set()  # findings in the table
         self.last_page_ended = None  # None: not known
 
     def run(self, job):
@@ -95,10 +96,9 @@ def draw_pages(facts):
                 facts.pictures[number] = pictures(facts.width, facts.height, page)
 
 
-def mark_rows(facts):
-    """Where a damaged row would have been drawn: the y at the end of the job cut before it, by the proved program itself."""
-    for index in facts.lines.damaged()[:MARKS]:
-        facts.marks[index] = facts.run(facts.job[: facts.lines.places[index]]).end[1]
+def list_findings(facts):
+    """The table has the first findings and the first damaged rows. So of the rows that share a mark the first is in it, if any is."""
+    facts.listed = {*range(min(LISTED, len(facts.lines.places))), *facts.lines.damaged()[:ROWS_LISTED]}
 
 
 def last_page(facts):
@@ -114,12 +114,12 @@ def gathered(facts):
     hash_pages(facts)
     if facts.lines.refused is None:
         draw_pages(facts)
-        mark_rows(facts)
+        list_findings(facts)
         last_page(facts)
 
 
 def so_far(facts):
-    return f"{len(facts.digests)} pages, {len(facts.lines.places)} findings, {len(facts.marks)} rows marked so far"
+    return f"{len(facts.digests)} pages, {len(facts.lines.places)} findings so far"
 
 
 def main(words):

@@ -8,13 +8,14 @@ from html import escape
 import findings
 from findings import DAMAGED_ROW, FINDINGS, REFUSALS
 
-LISTED = 500  # findings in the table; damaged rows that are marked are always there
 BYTES_SHOWN = 16
 UNITS_A_DOT = 24
 LABEL = 0.045  # the height of a mark's number on a narrow screen, in page widths
 POLICY = "default-src 'none'; img-src data:; style-src 'unsafe-inline'"  # a browser fetches nothing and runs nothing
 READING = """<p>Text in a job moves the cursor and is not drawn. A picture that is reduced loses no dot: where the page has one, it is never white.
 Full size shows each dot.</p>
+<p>A finding lies on the dot row where the cursor stood as its command began. Damaged rows on the same dot row of a page share a mark, and so do all
+below its foot.</p>
 """
 STYLE = os.path.join(os.path.dirname(os.path.abspath(__file__)), "record.css")
 
@@ -77,48 +78,73 @@ def page_measure(facts):
     return f"{width:,} by {height:,} dots, 300 an inch ({millimetres(width * UNITS_A_DOT)} by {millimetres(height * UNITS_A_DOT)})"
 
 
-def on_page(facts, number):
-    """The marked rows on this page, from its top on: the finding and its y."""
-    rows = [(y, index) for index, y in facts.marks.items() if facts.lines.page_of(index) == number]
-    return sorted(rows)
+def marks_of(facts, number):
+    """The page's damaged rows by the dot row that they lie on, from its top on; those below its foot are together."""
+    lines, rows = facts.lines, {}
+    for index in lines.on_page(number):
+        if lines.numbers[index] == DAMAGED_ROW:
+            rows.setdefault(dot_row(facts, index), []).append(index)
+    return sorted(rows.items())
 
 
-def labels(rows, width):
-    """Rows that lie too close for a number each have one together, at the first of them."""
+def dot_row(facts, index):
+    """The dot row of its page on which the finding's item began; the page's height if that is below its foot."""
+    return min(facts.lines.y[index] // UNITS_A_DOT, facts.height)
+
+
+def labels(marks, width):
+    """Marks that lie too close for a number each have one together, at the first of them."""
     groups = []
-    for y, index in rows:
-        if groups and y - groups[-1][0] < LABEL * width * UNITS_A_DOT:
-            groups[-1][1].append(index)
+    for row, group in marks:
+        if groups and row - groups[-1][0] < LABEL * width:
+            groups[-1][1].extend(group)
         else:
-            groups.append((y, [index]))
-    return {group[0]: from_to(sorted(group)) for _, group in groups}
+            groups.append((row, group[:]))
+    return {row: from_to(sorted(group)) for row, group in groups}
+
+
+def gapless(group):
+    return group[-1] - group[0] + 1 == len(group)
 
 
 def from_to(group):
     """The numbers of these findings: 4, or 4–6 if none is left out, else 4…9. A narrow window has room for the first."""
     first, last = group[0] + 1, group[-1] + 1
-    dash = "–" if last - first + 1 == len(group) else "…"
-    return f"{first}<i>{dash}{last}</i>" if last > first else str(first)
+    return f"{first}<i>{'–' if gapless(group) else '…'}{last}</i>" if last > first else str(first)
 
 
-def mark(facts, y, index, label):
-    top = min(100, y / UNITS_A_DOT / facts.height * 100)
-    said = f"finding {index + 1}, damaged row, {place_on_page(facts, y)}"
+def named(group):
+    """The same in words."""
+    first, last = f"{group[0] + 1:,}", f"{group[-1] + 1:,}"
+    if len(group) == 1:
+        return f"finding {first}, damaged row"
+    if len(group) == 2:
+        return f"findings {first} and {last}, damaged rows"
+    return f"{'' if gapless(group) else f'{len(group):,} of the '}findings {first} to {last}, damaged rows"
+
+
+def mark(facts, number, row, group, label):
+    """The mark of the damaged rows on this dot row. It leads to the first of them in the table, if that is there."""
+    said = f"{named(group)}, {place_on_page(facts, group[0])}"
+    leads = f'id="{mark_name(number, row)}" href="#finding-{group[0] + 1}" aria-label="{said}" ' if group[0] in facts.listed else ""
     inside = f"<span>{label}</span>" if label else ""
-    return f'<a class="mark" id="mark-{index + 1}" href="#finding-{index + 1}" style="top:{top:.2f}%" title="{said}" aria-label="{said}">{inside}</a>\n'
+    return f'<a class="mark" {leads}style="top:{row / facts.height * 100:.2f}%" title="{said}">{inside}</a>\n'
 
 
-def place_on_page(facts, y):
-    row = y // UNITS_A_DOT
-    return f"dot row {row:,}, {millimetres(y)} from the top" if row < facts.height else "below the page's foot"
+def mark_name(number, row):
+    return f"page-{number}-row-{row}"
+
+
+def place_on_page(facts, index):
+    row = dot_row(facts, index)
+    return f"dot row {row:,}, {millimetres(facts.lines.y[index])} from the top" if row < facts.height else "below the page's foot"
 
 
 def caption(facts, number):
-    damaged, marked = facts.damaged[number], len(on_page(facts, number))
+    damaged = facts.damaged[number]
     said = [f"Page {number} of {len(facts.digests):,}", counted(facts.lines.dots[number - 1], "dot", "dots")]
     if damaged:
-        some = "" if marked == damaged else f"{marked} of them "
-        said.append(f'<strong>{counted(damaged, "damaged row", "damaged rows")}</strong>, {some}marked in the margin by the number of the finding')
+        said.append(f'<strong>{counted(damaged, "damaged row", "damaged rows")}</strong>, marked in the margin by the number of the finding')
     return ", ".join(said)
 
 
@@ -135,12 +161,13 @@ def images(facts, number):
 def page(facts, number):
     """A page's picture, its marks in the margin, and its hash. It is shown in full size when it is the target of its own link."""
     width, height = facts.width, facts.height
-    rows = on_page(facts, number)
+    rows = marks_of(facts, number)
     label = labels(rows, width)
-    marks, newline = "".join(mark(facts, y, index, label.get(index)) for y, index in rows), "\n"
+    marks, newline = "".join(mark(facts, number, row, group, label.get(row)) for row, group in rows), "\n"
+    digits = len(str(facts.lines.on_page(number).stop))  # of its highest finding: the margin has room for them
     return f"""<figure id="page-{number}">
 <figcaption>{caption(facts, number)}</figcaption>
-<div class="sheet" id="page-{number}-full" style="--wide:{width};--high:{height}">
+<div class="sheet" id="page-{number}-full" style="--wide:{width};--high:{height};--digits:{digits}">
 <p class="back"><a href="#page-{number}">Fit page {number} to the window</a></p>
 <div class="frame">
 <a class="picture" href="#page-{number}-full" title="Full size">
@@ -188,13 +215,16 @@ def bytes_at(job, place):
 
 
 def where(facts, index):
+    """The page and the dot row on which the finding's item began. A damaged row leads to its mark, another finding to its page."""
     number, count = facts.lines.page_of(index), len(facts.digests)
     if number > count:
         return "after the last page" if count else "no page"
-    if index not in facts.marks:
-        return f'<a href="#page-{number}">page {number}</a>' if number in facts.pictures else f"page {number}"
-    said = f"page {number}, {place_on_page(facts, facts.marks[index])}"
-    return f'<a href="#mark-{index + 1}">{said}</a>' if number in facts.pictures else said
+    page_said, place = f"page {number}", place_on_page(facts, index)
+    if number not in facts.pictures:
+        return f"{page_said}, {place}"
+    if facts.lines.numbers[index] != DAMAGED_ROW:
+        return f'<a href="#page-{number}">{page_said}</a>, {place}'
+    return f'<a href="#{mark_name(number, dot_row(facts, index))}">{page_said}, {place}</a>'
 
 
 def finding(facts, index):
@@ -212,29 +242,25 @@ def finding(facts, index):
     return f'<tr id="finding-{index + 1}">{inside}</tr>\n'
 
 
-def not_listed(facts, shown):
-    """What the table and the margins leave out, said in full."""
-    said, damaged = "", sum(facts.damaged.values())
-    if len(shown) < len(facts.lines.places):
-        said += (
-            f"<p>{len(facts.lines.places) - len(shown):,} of {len(facts.lines.places):,} findings are not in this list. "
-            "All of them are in findings.txt, which <code>./rovinuset draw</code> writes.</p>\n"
-        )
-    if len(facts.marks) < damaged:
-        said += f"<p>{len(facts.marks):,} of {damaged:,} damaged rows, the first ones, are marked in the margins.</p>\n"
-    return said
+def not_listed(facts):
+    """What the table leaves out."""
+    found, left = len(facts.lines.places), len(facts.lines.places) - len(facts.listed)
+    if not left:
+        return ""
+    return (
+        f"<p>{left:,} of {found:,} findings are not in this list. "
+        "All of them are in findings.txt, which <code>./rovinuset draw</code> writes.</p>\n"
+    )
 
 
 def listed(facts):
-    lines = facts.lines
-    if not lines.places:
+    if not facts.lines.places:
         return "<p>None.</p>\n"
-    shown = sorted({*range(min(LISTED, len(lines.places))), *facts.marks})
     names = ("No.", "Finding", "Place", "On the page", "Bytes from there on", "What was done")
     head = "".join(f"<th>{name}</th>" for name in names)
-    rows = "".join(finding(facts, index) for index in shown)
+    rows = "".join(finding(facts, index) for index in sorted(facts.listed))
     text = "<p>The place is counted in bytes from 0, the job's first byte.</p>\n"
-    return f'{text}{not_listed(facts, shown)}<table id="list">\n<thead><tr>{head}</tr></thead>\n<tbody>\n{rows}</tbody>\n</table>\n'
+    return f'{text}{not_listed(facts)}<table id="list">\n<thead><tr>{head}</tr></thead>\n<tbody>\n{rows}</tbody>\n</table>\n'
 
 
 def last_page(facts):
