@@ -1,6 +1,6 @@
 -- The lines of a finding and its mark. Assumes nothing.
 use mathlib.Core.Path.{_≡_, ap, sym, _∙_}
-use mathlib.Core.List.{List, [], _∷_, _++_}
+use mathlib.Core.List.{List, [], _∷_}
 use Prim.Native.Nat.{ℕ}
 use Rattle.common.specs.Stores.{Wrote}
 use Rattle.common.proofs.Stores.{wrote-both}

@@ -25,7 +25,7 @@ use Rattle.number_write.proofs.Laws.{decimal-append, decimal-short}
 use Rattle.theorems.proofs.Reading.{left, left-zero}
 use Rattle.theorems.proofs.Streams.{step-left}
 use Rattle.theorems.proofs.Suffixes.{step-took}
-use Rattle.report_laws.specs.Left.{plainly, counted, linesLeft, streamLines}
+use Rattle.report_laws.specs.Left.{faultAlone, counted, linesLeft, streamLines}
 use Rattle.report_laws.specs.Bound.{longestReport, ReportsFit}
 use Rattle.report_laws.proofs.Items.{report-lines, left-whole, left-over, left-step, turned}
 use Rattle.report_laws.proofs.Ends.{step-apart, step-two}
@@ -121,32 +121,32 @@ last-length number w n h =
 module _ (g : Measure) where
   -- at the stream's end
   over-length : (t : State) (s : List ℕ) (at number : ℕ) (p : List ℕ) (n : ℕ) → over t s ≡ true → number ≤ 131073
-      → length (linesLeft plainly g t s at number p n) ≤ 17 * left (t .sequence) s + 121
-  over-length t s at number p n e h = rw (left-over plainly g t s at number p n e) (omega (arith, last-length number (world (t .core) p []) n h))
+      → length (linesLeft faultAlone g t s at number p n) ≤ 17 * left (t .sequence) s + 121
+  over-length t s at number p n e h = rw (left-over faultAlone g t s at number p n e) (omega (arith, last-length number (world (t .core) p []) n h))
 
   -- seventeen bytes for each half byte of the stream are enough: an item takes one, and one that ends a page takes two
   pub left-length : (k : ℕ) (t : State) (s : List ℕ) (at number : ℕ) (p : List ℕ) (n : ℕ) → left (t .sequence) s ≤ k → at + length s ≤ 65536
-      → number + left (t .sequence) s ≤ 131073 → length (linesLeft plainly g t s at number p n) ≤ 17 * left (t .sequence) s + 121
+      → number + left (t .sequence) s ≤ 131073 → length (linesLeft faultAlone g t s at number p n) ≤ 17 * left (t .sequence) s + 121
   left-length zero t s at number p n k low few = over-length t s at number p n (left-zero (t .sequence) s k) (omega arith)
   left-length (suc k) t s at number p n h low few = go (over t s) refl (left-length k)
     where
       Goal : Type 0
-      Goal = length (linesLeft plainly g t s at number p n) ≤ 17 * left (t .sequence) s + 121
+      Goal = length (linesLeft faultAlone g t s at number p n) ≤ 17 * left (t .sequence) s + 121
 
       item : over t s ≡ false → (b : Bool) → isClean (step g t s .done .finding) ≡ b → (ds : List (List ℕ)) → showAll g (step g t s .done .acts) (world (t .core) p []) .handed ≡ ds
-          → ((number′ : ℕ) (q : List ℕ) (m : ℕ) → number′ ≤ number + 1 → length (linesLeft plainly g (step g t s .state) (step g t s .rest) (at + step g t s .done .took) number′ q m) ≤ 17 * left (step g t s .state .sequence) (step g t s .rest) + 121) → Goal
+          → ((number′ : ℕ) (q : List ℕ) (m : ℕ) → number′ ≤ number + 1 → length (linesLeft faultAlone g (step g t s .state) (step g t s .rest) (at + step g t s .done .took) number′ q m) ≤ 17 * left (step g t s .state .sequence) (step g t s .rest) + 121) → Goal
       item e b f [] d i =
           let l = step-left g t s e in
           let h = i (number + 0) (showAll g (step g t s .done .acts) (world (t .core) p []) .page) (n + counted (step g t s .done .finding)) (omega arith) in
-          rw (left-step g t s e plainly at number p n _ [] (turned g t s e p [] d)) (unfold pageLines in fault-within at (step g t s .done .finding) _ _ (omega arith) (omega arith))
+          rw (left-step g t s e faultAlone at number p n _ [] (turned g t s e p [] d)) (unfold pageLines in fault-within at (step g t s .done .finding) _ _ (omega arith) (omega arith))
       item e true f (q ∷ ds) d i =
           let l = step-two g t s p q ds e d in
           let h = i (number + 1) (blank g) (n + 0) (omega arith) in
-          rw (left-step g t s e plainly at number p n _ (q ∷ []) (turned g t s e p (q ∷ ds) d)) (unfold pageLines in rw f (page-within number (onesAll q) _ _ (omega arith) (omega arith)))
+          rw (left-step g t s e faultAlone at number p n _ (q ∷ []) (turned g t s e p (q ∷ ds) d)) (unfold pageLines in rw f (page-within number (onesAll q) _ _ (omega arith) (omega arith)))
       item e false f (q ∷ ds) d i = absurd (let z : 0 ≡ suc (length ds) = ap length (sym (step-apart g t s p f) ∙ d) in omega arith)
 
       go : (b : Bool) → over t s ≡ b → ((t : State) (s : List ℕ) (at number : ℕ) (p : List ℕ) (n : ℕ) → left (t .sequence) s ≤ k → at + length s ≤ 65536
-          → number + left (t .sequence) s ≤ 131073 → length (linesLeft plainly g t s at number p n) ≤ 17 * left (t .sequence) s + 121) → Goal
+          → number + left (t .sequence) s ≤ 131073 → length (linesLeft faultAlone g t s at number p n) ≤ 17 * left (t .sequence) s + 121) → Goal
       go true e i = over-length t s at number p n e (omega arith)
       go false e i =
           let l = step-left g t s e in
@@ -156,10 +156,10 @@ module _ (g : Measure) where
 
 -- ---- a whole report
 -- the lines of a stream within the limit
-stream-length : (g : Measure) (s : List ℕ) → length s ≤ 65536 → length (streamLines plainly g s) ≤ 17 * (2 * 65536) + 121
+stream-length : (g : Measure) (s : List ℕ) → length s ≤ 65536 → length (streamLines faultAlone g s) ≤ 17 * (2 * 65536) + 121
 stream-length g s h =
     let l : left (afresh g .sequence) s ≡ 2 * length s = unfold left afresh in refl in
-    rw (← left-whole plainly g s) (omega (arith, left-length g (2 * length s) (afresh g) s 0 1 (blank g) 0 (omega arith) (omega arith) (omega arith)))
+    rw (← left-whole faultAlone g s) (omega (arith, left-length g (2 * length s) (afresh g) s 0 1 (blank g) 0 (omega arith) (omega arith) (omega arith)))
 
 -- SIZE in front of s
 size-length : (s : List ℕ) → length (line SIZE (reportWidth ∷ reportHeight ∷ []) s) ≤ 13 + length s
@@ -178,4 +178,4 @@ reports-fit s =
     rw (← report-lines reportPage l 0 1 (firstWorld reportPage) (faults l))
     (choice-by (λ (l : List ℕ). length (line SIZE (reportWidth ∷ reportHeight ∷ []) l) ≤ longestReport) (ltb reportLimit (length s))
     (λ e. let n = size-length (line REFUSED (12 ∷ []) []) in let m = refused-length in omega arith)
-    (λ e. let n = size-length (streamLines plainly reportPage s) in let m = stream-length reportPage s (ltb-false reportLimit (length s) e) in omega arith))
+    (λ e. let n = size-length (streamLines faultAlone reportPage s) in let m = stream-length reportPage s (ltb-false reportLimit (length s) e) in omega arith))

@@ -21,7 +21,7 @@ use Rattle.theorems.proofs.Reading.{left}
 use Rattle.theorems.proofs.Streams.{step-left, to-end}
 use Rattle.theorems.proofs.Pages.{step-single, afterItem, item-pages, showAll-core}
 use Rattle.theorems.proofs.Jobs.{same-end}
-use Rattle.report_laws.specs.Left.{Saying, plainly, told, toldLines, counted, linesLeft, streamLines}
+use Rattle.report_laws.specs.Left.{Saying, faultAlone, told, toldLines, counted, linesLeft, streamLines}
 
 -- what is left is less than enough
 pub left-enough : (q : Sequence) (s : List ℕ) → left q s ≤ enough s
@@ -30,7 +30,7 @@ left-enough Closed s = omega arith
 left-enough (Open f g) s = omega arith
 
 -- the report's own lines
-pub report-lines : (g : Measure) (l : List Done) (at number : ℕ) (w : World) (n : ℕ) → toldLines plainly g l at number w n ≡ itemLines g l at number w n
+pub report-lines : (g : Measure) (l : List Done) (at number : ℕ) (w : World) (n : ℕ) → toldLines faultAlone g l at number w n ≡ itemLines g l at number w n
 unfolding toldLines itemLines
 report-lines g [] at number w n = refl
 report-lines g (i ∷ l) at number w n =

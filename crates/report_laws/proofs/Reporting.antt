@@ -29,7 +29,7 @@ use Rattle.theorems.proofs.Lengths.{fresh-shaped}
 use Rattle.theorems.proofs.Runs.{run-shaped}
 use Rattle.theorems.proofs.Theorems.{afresh-is-sound}
 use Rattle.report_line.proofs.Texts.{line-append, cond-append}
-use Rattle.report_laws.specs.Left.{Saying, plainly, told, drawn, linesLeft, counted, printed, streamLines}
+use Rattle.report_laws.specs.Left.{Saying, faultAlone, told, drawn, linesLeft, counted, printed, streamLines}
 use Rattle.report_laws.proofs.Items.{left-whole, left-over}
 use Rattle.report_laws.proofs.Printing.{behind, Prints, run-prints, run-over, run-nothing}
 use Rattle.report_laws.proofs.Calls.{carried, run-kept}
@@ -39,8 +39,8 @@ use Rattle.report_laws.proofs.Calls.{carried, run-kept}
 abbrev pub Ahead : Saying → Type 0
 Ahead say = (began : Spot) (at n : ℕ) (s t : List ℕ) → say began at n (s ++ t) ≡ say began at n s ++ t
 
-pub plainly-ahead : Ahead plainly
-plainly-ahead began at n s t = line-append FAULT (at ∷ n ∷ []) s t
+pub alone-ahead : Ahead faultAlone
+alone-ahead began at n s t = line-append FAULT (at ∷ n ∷ []) s t
 
 module _ (say : Saying) (ahead : Ahead say) where
   -- a finding in front of s and t
@@ -66,8 +66,8 @@ module _ (say : Saying) (ahead : Ahead say) where
 
 -- those of the report
 pub wrote-ran : {l l1 l2 : List ℕ} {at a r : ℕ} (number : ℕ) (o : Ran) (p : List ℕ) (f : Finding) → f ≡ o .finding → Wrote l at (fault (o .found) f []) l1 a
-    → Wrote l1 a (cond (o .ended) (line PAGE (number ∷ onesAll p ∷ []) []) []) l2 r → Wrote l at (printed plainly number o p []) l2 r
-wrote-ran number o p f e v w = wrote-told plainly plainly-ahead number o p (rw e at v) w
+    → Wrote l1 a (cond (o .ended) (line PAGE (number ∷ onesAll p ∷ []) []) []) l2 r → Wrote l at (printed faultAlone number o p []) l2 r
+wrote-ran number o p f e v w = wrote-told faultAlone alone-ahead number o p (rw e at v) w
 
 -- the report's page is allowed
 pub page-allowed : allowed reportWidth reportHeight ≡ true
@@ -95,8 +95,8 @@ pub record Going (W H : ℕ) (s page : List ℕ) (t : State) (place number findi
 pub record Reporting (W H : ℕ) (s before : List ℕ) (at : ℕ) (page room : List ℕ) (t : State) (place number findings next : ℕ) : Type 0 where
   pub going : Going W H s page t place number findings
   pub kept : length room ≡ length before
-  pub ends : (after : List ℕ) (r : ℕ) → Wrote room next (linesLeft plainly (measureOf W H) t (drop place s) place number (drawn (measureOf W H) t page) findings) after r
-      → Wrote before at (streamLines plainly (measureOf W H) s) after r
+  pub ends : (after : List ℕ) (r : ℕ) → Wrote room next (linesLeft faultAlone (measureOf W H) t (drop place s) place number (drawn (measureOf W H) t page) findings) after r
+      → Wrote before at (streamLines faultAlone (measureOf W H) s) after r
 
 module _ (W H : ℕ) (allow : allowed W H ≡ true) where
   -- nothing is done yet
@@ -120,7 +120,7 @@ module _ (W H : ℕ) (allow : allowed W H ≡ true) where
   fresh s room at page e = record {
     going = going-fresh s page e;
     kept = refl;
-    ends = λ after r w. subst (λ l. Wrote room at l after r) (left-whole plainly (measureOf W H) s) w;
+    ends = λ after r w. subst (λ l. Wrote room at l after r) (left-whole faultAlone (measureOf W H) s) w;
   }
 
   pub reporting-start : (s room : List ℕ) (at : ℕ) (page : List ℕ) (t : State) → length page ≡ H * (W / 8) → t ≡ afresh (measureOf W H)
@@ -153,7 +153,7 @@ module _ (W H : ℕ) (allow : allowed W H ≡ true) where
 
     -- less is left to read
     pub going-less : (o .done ≡ 0 → ⊥) → left (o .state .sequence) (drop (o .place) s) < left (t .sequence) (drop place s)
-    going-less z = let l = does plainly z .less in omega arith
+    going-less z = let l = does faultAlone z .less in omega arith
 
     -- a run with something to do leaves all as it should be
     pub going-again : {i j : ℕ} → (o .done ≡ 0 → ⊥) → length page′ ≡ length page → i ≡ cond (o .ended) 1 0 → j ≡ counted (o .finding)
@@ -163,7 +163,7 @@ module _ (W H : ℕ) (allow : allowed W H ≡ true) where
           sized = e ∙ inv .sized;
           sound = subst (λ (q : Outcome). sound (measureOf W H) (q .ran .state) ≡ true) call-ran (run-kept (measureOf W H) (allowed-gives W H allow .fits) (suc k) t place page s (inv .shaped) (inv .sound));
           shaped = subst (λ (q : Outcome). Shaped (q .ran .state .core)) call-ran (run-shaped (measureOf W H) (allowed-gives W H allow .fits .wide) (suc k) t place page s (inv .shaped));
-          placed = does plainly z .inside;
+          placed = does faultAlone z .inside;
           pages = one (o .ended);
           found = one-found (isClean (o .finding));
         }
@@ -211,14 +211,14 @@ module _ (W H : ℕ) (allow : allowed W H ≡ true) where
     reporting-less z = going-less (inv .going) within k promise z
 
     -- the lines of a run are written
-    pub reporting-again : {room′ : List ℕ} {r i j : ℕ} → (o .done ≡ 0 → ⊥) → length page′ ≡ length page → i ≡ cond (o .ended) 1 0 → j ≡ counted (o .finding) → Wrote room next (printed plainly number o page′ []) room′ r
+    pub reporting-again : {room′ : List ℕ} {r i j : ℕ} → (o .done ≡ 0 → ⊥) → length page′ ≡ length page → i ≡ cond (o .ended) 1 0 → j ≡ counted (o .finding) → Wrote room next (printed faultAlone number o page′ []) room′ r
         → Reporting W H s before at page′ room′ (o .state) (o .place) (number + i) (findings + j) r
     reporting-again z e x y v = record {
       going = going-again (inv .going) within k promise z e x y;
-      kept = ap length (v .held) ∙ length-sets room next (printed plainly number o page′ []) ∙ inv .kept;
-      ends = λ after q u. inv .ends after q (rw (lines-again (inv .going) within k promise plainly plainly-ahead z, ← x, ← y) (wrote-both v u));
+      kept = ap length (v .held) ∙ length-sets room next (printed faultAlone number o page′ []) ∙ inv .kept;
+      ends = λ after q u. inv .ends after q (rw (lines-again (inv .going) within k promise faultAlone alone-ahead z, ← x, ← y) (wrote-both v u));
     }
 
     -- the last lines are written
-    pub reporting-end : {after : List ℕ} {r : ℕ} → o .done ≡ 0 → Wrote room next (lastLines number (world (o .state .core) page′ []) findings) after r → Wrote before at (streamLines plainly (measureOf W H) s) after r
-    reporting-end {after} {r} z w = inv .ends after r (subst (λ l. Wrote room next l after r) (lines-end (inv .going) within k promise plainly z) w)
+    pub reporting-end : {after : List ℕ} {r : ℕ} → o .done ≡ 0 → Wrote room next (lastLines number (world (o .state .core) page′ []) findings) after r → Wrote before at (streamLines faultAlone (measureOf W H) s) after r
+    reporting-end {after} {r} z w = inv .ends after r (subst (λ l. Wrote room next l after r) (lines-end (inv .going) within k promise faultAlone z) w)

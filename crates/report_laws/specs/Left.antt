@@ -20,8 +20,8 @@ abbrev pub Saying : Type 0
 Saying = Spot → ℕ → ℕ → List ℕ → List ℕ
 
 -- the report says "FAULT, place, number"
-abbrev pub plainly : Saying
-plainly began at n s = line FAULT (at ∷ n ∷ []) s
+abbrev pub faultAlone : Saying
+faultAlone began at n s = line FAULT (at ∷ n ∷ []) s
 
 abbrev pub told : Saying → Spot → ℕ → Finding → List ℕ → List ℕ
 told say began at f s = cond (isClean f) s (say began at (findingNumber f) s)

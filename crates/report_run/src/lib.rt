@@ -7,7 +7,7 @@ ghost use Prim.Native.Nat.{_≤_};
 ghost use lib.ListN.{length};
 ghost use Rattle.common.specs.Stores.{Wrote};
 ghost use Rattle.dot_page.specs.Zeros.{FirstZero};
-ghost use Rattle.report_laws.specs.Left.{plainly, counted, printed};
+ghost use Rattle.report_laws.specs.Left.{faultAlone, counted, printed};
 use rules::Finding;
 use rules::Ran;
 
@@ -44,7 +44,7 @@ pub fn write_ran(
     at: usize,
 ) -> usize
     requires { ⌜ (length (now page) ≤ 4294967296) × FirstZero zeros (now page) ⌝ }
-    ensures { λ r. ⌜ Wrote (now (room .entry)) at (printed plainly number o (now (page .entry)) []) (now (room .exit)) r ⌝ }
+    ensures { λ r. ⌜ Wrote (now (room .entry)) at (printed faultAlone number o (now (page .entry)) []) (now (room .exit)) r ⌝ }
 {
     let f = o.finding;
     let behind = report_fault::write_fault(o.found, f, room, at);

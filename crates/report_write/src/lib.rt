@@ -7,7 +7,7 @@ ghost use lib.ListN.{length};
 ghost use Rattle.common.specs.Stores.{Wrote};
 ghost use Rattle.rules.specs.States.{afresh};
 ghost use Rattle.rules.specs.Report.{reportPage};
-ghost use Rattle.report_laws.specs.Left.{plainly, streamLines};
+ghost use Rattle.report_laws.specs.Left.{faultAlone, streamLines};
 ghost use Rattle.report_laws.specs.Bound.{Reported};
 use report_run::count_of;
 use report_run::one_if;
@@ -39,7 +39,7 @@ fn first_state() -> State
 fn write_stream(s: &[u8], page: &mut [u8], room: &mut [u8], at: usize) -> usize
     requires { ⌜ length (now s) ≤ 65536 ⌝ }
     requires { ⌜ length (now page) ≡ 64000 ⌝ }
-    ensures { λ r. ⌜ Wrote (now (room .entry)) at (streamLines plainly reportPage (now (s .entry))) (now (room .exit)) r ⌝ }
+    ensures { λ r. ⌜ Wrote (now (room .entry)) at (streamLines faultAlone reportPage (now (s .entry))) (now (room .exit)) r ⌝ }
 {
     let mut state = first_state();
     let mut place: usize = 0;
