@@ -6,7 +6,7 @@ ghost use Prim.Native.Nat.{_+_, _*_, _-_, _/_, _≤_, _<_, max};
 ghost use lib.Dec.{eqb, ltb};
 ghost use Rattle.rules.specs.declared.Core.{Core};
 ghost use Rattle.rules.specs.declared.Code.the-variants.{CarriageReturn, LineFeed, FormFeed, Backspace, Tab};
-ghost use Rattle.rules.specs.Measure.{LW, half, intoWidth, intoHeight};
+ghost use Rattle.rules.specs.Measure.{Bounded, LW, half, intoWidth, intoHeight};
 ghost use Rattle.rules.specs.States.{atX, atY, withLeft, withRight};
 ghost use Rattle.rules.specs.Acts.{endsPage, control};
 ghost use Rattle.do_code.specs.Moved.{Moved};
@@ -24,7 +24,7 @@ use state_page::width;
 
 // CR alone: x = L.
 fn return_at(g: Measure, at: Spot, l: Layout) -> Spot
-    requires { ⌜ (g .wide ≤ 600) × (g .high ≤ 6800) ⌝ }
+    requires { ⌜ Bounded g ⌝ }
     ensures { λ r. ⌜ r ≡ atX (intoWidth g (l .left)) at ⌝ }
 {
     let x = into_width(g, l.left as u64);
@@ -33,7 +33,7 @@ fn return_at(g: Measure, at: Spot, l: Layout) -> Spot
 
 // LF alone: y + VMI.
 fn feed_at(g: Measure, at: Spot, l: Layout) -> Spot
-    requires { ⌜ (g .wide ≤ 600) × (g .high ≤ 6800) ⌝ }
+    requires { ⌜ Bounded g ⌝ }
     ensures { λ r. ⌜ r ≡ atY (intoHeight g (at .y + l .vmi)) at ⌝ }
 {
     let y = into_height(g, at.y as u64 + l.vmi as u64);
@@ -49,7 +49,7 @@ fn is_either(t: u8, a: u8, b: u8) -> bool
 
 // The code CR: 1 and 3 make it do CR and LF.
 fn code_return(g: Measure, at: Spot, l: Layout) -> Spot
-    requires { ⌜ (g .wide ≤ 600) × (g .high ≤ 6800) ⌝ }
+    requires { ⌜ Bounded g ⌝ }
     ensures { λ r. ⌜ Moved g CarriageReturn at l r ⌝ }
 {
     let back = return_at(g, at, l);
@@ -62,7 +62,7 @@ fn code_return(g: Measure, at: Spot, l: Layout) -> Spot
 
 // What LF and FF do first: 2 and 3 make them do CR too.
 fn before_feed(g: Measure, at: Spot, l: Layout) -> Spot
-    requires { ⌜ (g .wide ≤ 600) × (g .high ≤ 6800) ⌝ }
+    requires { ⌜ Bounded g ⌝ }
     ensures { λ r. ⌜ r ≡ cond (eqb (l .termination) 2 || eqb (l .termination) 3) (atX (intoWidth g (l .left)) at) at ⌝ }
 {
     if is_either(l.termination, 2, 3) {
@@ -74,7 +74,7 @@ fn before_feed(g: Measure, at: Spot, l: Layout) -> Spot
 
 // The code LF.
 fn code_feed(g: Measure, at: Spot, l: Layout) -> Spot
-    requires { ⌜ (g .wide ≤ 600) × (g .high ≤ 6800) ⌝ }
+    requires { ⌜ Bounded g ⌝ }
     ensures { λ r. ⌜ Moved g LineFeed at l r ⌝ }
 {
     let first = before_feed(g, at, l);
@@ -83,7 +83,7 @@ fn code_feed(g: Measure, at: Spot, l: Layout) -> Spot
 
 // The code FF: the first line of the next page.
 fn code_page(g: Measure, at: Spot, l: Layout) -> Spot
-    requires { ⌜ (g .wide ≤ 600) × (g .high ≤ 6800) ⌝ }
+    requires { ⌜ Bounded g ⌝ }
     ensures { λ r. ⌜ Moved g FormFeed at l r ⌝ }
 {
     let first = before_feed(g, at, l);
@@ -107,7 +107,7 @@ fn back_to(x: u32, left: u32, hmi: u32) -> u64
 
 // The code BS.
 fn code_back(g: Measure, at: Spot, l: Layout) -> Spot
-    requires { ⌜ (g .wide ≤ 600) × (g .high ≤ 6800) ⌝ }
+    requires { ⌜ Bounded g ⌝ }
     ensures { λ r. ⌜ Moved g Backspace at l r ⌝ }
 {
     let x = into_width(g, back_to(at.x, l.left, l.hmi));
@@ -129,7 +129,7 @@ fn next_stop(x: u32, left: u32, hmi: u32) -> u64
 
 // The code HT, which does nothing if HMI is 0.
 fn code_tab(g: Measure, at: Spot, l: Layout) -> Spot
-    requires { ⌜ (g .wide ≤ 600) × (g .high ≤ 6800) ⌝ }
+    requires { ⌜ Bounded g ⌝ }
     ensures { λ r. ⌜ Moved g Tab at l r ⌝ }
 {
     if l.hmi == 0 {
@@ -140,7 +140,7 @@ fn code_tab(g: Measure, at: Spot, l: Layout) -> Spot
 
 // Where a control code leaves the cursor.
 pub fn coded_at(g: Measure, k: Code, at: Spot, l: Layout) -> Spot
-    requires { ⌜ (g .wide ≤ 600) × (g .high ≤ 6800) ⌝ }
+    requires { ⌜ Bounded g ⌝ }
     ensures { λ r. ⌜ Moved g k at l r ⌝ }
 {
     match k {
@@ -167,7 +167,7 @@ pub fn code_ends_page(k: Code) -> bool
 
 // ESC 9: L = 0, R = LW.
 pub fn clear_margins(g: Measure, l: Layout) -> Layout
-    requires { ⌜ (g .wide ≤ 600) × (g .high ≤ 6800) ⌝ }
+    requires { ⌜ Bounded g ⌝ }
     ensures { λ r. ⌜ r ≡ withLeft 0 (withRight (LW g) l) ⌝ }
 {
     let right = width(g);
@@ -179,7 +179,7 @@ pub fn clear_margins(g: Measure, l: Layout) -> Layout
 
 // ESC =: y + half VMI.
 pub fn half_line(g: Measure, at: Spot, l: Layout) -> Spot
-    requires { ⌜ (g .wide ≤ 600) × (g .high ≤ 6800) ⌝ }
+    requires { ⌜ Bounded g ⌝ }
     ensures { λ r. ⌜ r ≡ atY (intoHeight g (at .y + half (l .vmi))) at ⌝ }
 {
     let y = into_height(g, at.y as u64 + l.vmi as u64 / 2);

@@ -4,6 +4,7 @@ ghost use mathlib.Core.List.{List};
 ghost use Prim.Native.Nat.{ℕ, _≤_};
 ghost use Rattle.rules.specs.declared.Core.{Core};
 ghost use Rattle.rules.specs.declared.Command.the-variants.{Valued, Method, Print};
+ghost use Rattle.rules.specs.Measure.{Bounded};
 ghost use Rattle.rules.specs.Acts.{meanCommand};
 ghost use Rattle.do_change.specs.Changed.{Placed};
 ghost use Rattle.do_deed.specs.Deeds.{DeedFor};
@@ -70,7 +71,7 @@ fn make(d: Change, p: Pen, m: Beside, seed: &mut [u8; 600]) -> Deed
 
 // A command with a value and no payload.
 pub fn do_valued(g: Measure, k: Kind, v: Value, p: Pen, m: Beside, seed: &mut [u8; 600]) -> Deed
-    requires { ⌜ (g .wide ≤ 600) × (g .high ≤ 6800) × (p .depth ≤ 20) ⌝ }
+    requires { ⌜ Bounded g × (p .depth ≤ 20) ⌝ }
     ensures { λ r. ⌜ ((s : List ℕ) → DeedFor g (λ (c : Core). meanCommand g (Valued k v) s c m) p (now (seed .entry)) r (now (seed .exit))) ⌝ }
 {
     if is_negative(k, v) {
@@ -99,7 +100,7 @@ pub fn do_method(v: Value, p: Pen, m: Beside) -> Deed
 
 // &p#X: each payload byte moves as text.
 pub fn do_print(g: Measure, v: Value, payload: &[u8], p: Pen, m: Beside) -> Deed
-    requires { ⌜ (g .wide ≤ 600) × (g .high ≤ 6800) ⌝ }
+    requires { ⌜ Bounded g ⌝ }
     ensures { λ r. ⌜ ((b : List ℕ) → DeedFor g (λ (c : Core). meanCommand g (Print v) (now (payload .entry)) c m) p b r b) ⌝ }
 {
     if whole_negative(v) {

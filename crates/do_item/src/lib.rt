@@ -7,6 +7,7 @@ ghost use mathlib.Core.Bool.{true};
 ghost use Prim.Native.Nat.{_≤_};
 ghost use lib.ListN.{length, drop};
 ghost use Rattle.rules.specs.declared.Core.{Core};
+ghost use Rattle.rules.specs.Measure.{Bounded};
 ghost use Rattle.rules.specs.Sound.{allZero};
 ghost use Rattle.rules.specs.Acts.{meanCommand, mean};
 ghost use Rattle.read_item.specs.Items.{itemIn, fromOf, toOf};
@@ -35,7 +36,7 @@ fn do_command(
     m: Beside,
     seed: &mut [u8; 600],
 ) -> Deed
-    requires { ⌜ (g .wide ≤ 600) × (g .high ≤ 6800) × (p .depth ≤ 20) × (allZero (drop (g .wide) (now seed)) ≡ true) × (length (now seed) ≡ 600) ⌝ }
+    requires { ⌜ Bounded g × (p .depth ≤ 20) × (allZero (drop (g .wide) (now seed)) ≡ true) × (length (now seed) ≡ 600) ⌝ }
     ensures { λ r. ⌜ DeedOn g (λ (c : Core). meanCommand g k (now (payload .entry)) c m) p (now (seed .entry)) (now (page .entry)) r (now (seed .exit)) (now (page .exit)) ⌝ }
 {
     match k {
@@ -57,7 +58,7 @@ pub fn do_item(
     m: Beside,
     seed: &mut [u8; 600],
 ) -> Deed
-    requires { ⌜ (g .wide ≤ 600) × (g .high ≤ 6800) × (p .depth ≤ 20) × (allZero (drop (g .wide) (now seed)) ≡ true) × (length (now seed) ≡ 600) ⌝ }
+    requires { ⌜ Bounded g × (p .depth ≤ 20) × (allZero (drop (g .wide) (now seed)) ≡ true) × (length (now seed) ≡ 600) ⌝ }
     requires { ⌜ (fromOf i ≤ toOf i) × (toOf i ≤ length (now s)) ⌝ }
     ensures { λ r. ⌜ DeedOn g (λ (c : Core). mean g (itemIn (now (s .entry)) i) c m) p (now (seed .entry)) (now (page .entry)) r (now (seed .exit)) (now (page .exit)) ⌝ }
 {

@@ -8,7 +8,7 @@ ghost use Rattle.rules.specs.declared.Measure.{Measure};
 ghost use Rattle.rules.specs.declared.Value.{Value};
 ghost use Rattle.rules.specs.declared.Raster.{Raster};
 ghost use Rattle.rules.specs.declared.Kind.the-variants.{LeftMargin, RightMargin, TopMargin, Vmi, LinesPerInch, Hmi, Termination};
-ghost use Rattle.rules.specs.Measure.{LW};
+ghost use Rattle.rules.specs.Measure.{Bounded, LW};
 ghost use Rattle.rules.specs.Number.{sizeOf, wholePart};
 ghost use Rattle.rules.specs.Effects.{lineRates};
 ghost use Rattle.do_change.specs.Changed.{Changed};
@@ -42,7 +42,7 @@ fn columns(v: Value) -> u64
 
 // Where &a#M sets the right margin, no more than LW.
 pub fn new_right(g: Measure, v: Value, hmi: u32) -> u32
-    requires { ⌜ (g .wide ≤ 600) × (g .high ≤ 6800) ⌝ }
+    requires { ⌜ Bounded g ⌝ }
     ensures { λ r. ⌜ r ≡ min ((wholePart v + 1) * hmi) (LW g) ⌝ }
 {
     let most = width(g) as u64;
@@ -61,7 +61,7 @@ fn is_line_rate(n: u32) -> bool
 
 // &a#L: the left margin set; x left of L moves to L.
 pub fn left_at(g: Measure, left: u64, at: Spot, l: Layout) -> Change
-    requires { ⌜ (g .wide ≤ 600) × (g .high ≤ 6800) ⌝ }
+    requires { ⌜ Bounded g ⌝ }
     ensures { λ r. ⌜ ((v : Value) (q : Raster) (deep : ℕ) → left ≡ wholePart v * l .hmi → Changed g LeftMargin v at l q deep r) ⌝ }
 {
     if (l.right as u64) <= left {
@@ -75,7 +75,7 @@ pub fn left_at(g: Measure, left: u64, at: Spot, l: Layout) -> Change
 
 // &a#M: the right margin set; x right of R moves to R.
 pub fn right_at(g: Measure, right: u32, at: Spot, l: Layout) -> Change
-    requires { ⌜ (g .wide ≤ 600) × (g .high ≤ 6800) ⌝ }
+    requires { ⌜ Bounded g ⌝ }
     ensures { λ r. ⌜ ((v : Value) (q : Raster) (deep : ℕ) → right ≡ min ((wholePart v + 1) * l .hmi) (LW g) → Changed g RightMargin v at l q deep r) ⌝ }
 {
     if right <= l.left {
@@ -89,7 +89,7 @@ pub fn right_at(g: Measure, right: u32, at: Spot, l: Layout) -> Change
 
 // &l#E: the top margin set; y stays.
 pub fn top_at(g: Measure, top: u64, at: Spot, l: Layout) -> Change
-    requires { ⌜ (g .wide ≤ 600) × (g .high ≤ 6800) ⌝ }
+    requires { ⌜ Bounded g ⌝ }
     ensures { λ r. ⌜ ((v : Value) (q : Raster) (deep : ℕ) → top ≡ wholePart v * l .vmi → Changed g TopMargin v at l q deep r) ⌝ }
 {
     if l.vmi == 0 {

@@ -1,6 +1,7 @@
 // Paper 01, "Commands": what a command with a value changes, and the finding that bars it, which is seen before anything is changed. Nothing is refused: a
 // barred command tells its finding. A measure within 4,800 by 6,800 dots is asked for, so that lengths fit, and a depth that the stack holds.
 ghost use Prim.Native.Nat.{_≤_};
+ghost use Rattle.rules.specs.Measure.{Bounded};
 ghost use Rattle.do_change.specs.Changed.{Changed};
 use do_change::Change;
 use do_change::push_pop;
@@ -40,7 +41,7 @@ pub fn changed(
     r: Raster,
     depth: usize,
 ) -> Change
-    requires { ⌜ (g .wide ≤ 600) × (g .high ≤ 6800) × (depth ≤ 20) ⌝ }
+    requires { ⌜ Bounded g × (depth ≤ 20) ⌝ }
     ensures { λ q. ⌜ Changed g k v at l r depth q ⌝ }
 {
     match k {

@@ -2,6 +2,7 @@
 ghost use mathlib.Core.Path.{_≡_};
 ghost use mathlib.Core.Bool.{cond};
 ghost use Prim.Native.Nat.{_+_, _-_, _≤_, _<_};
+ghost use Rattle.rules.specs.Measure.{Bounded};
 ghost use Rattle.rules.specs.Effects.{target, displacement};
 ghost use Rattle.do_position.specs.Spots.{acrossSpot, downSpot};
 use rules::Measure;
@@ -40,7 +41,7 @@ fn target(base: u64, now: u32, unit: u32, v: Value) -> u64
 
 // The cursor behind &a#C, &a#H, *p#X.
 pub fn across_at(g: Measure, unit: u32, v: Value, at: Spot) -> Spot
-    requires { ⌜ (g .wide ≤ 600) × (g .high ≤ 6800) ⌝ }
+    requires { ⌜ Bounded g ⌝ }
     ensures { λ r. ⌜ r ≡ acrossSpot g unit v at ⌝ }
 {
     let x = into_width(g, target(0, at.x, unit, v));
@@ -49,7 +50,7 @@ pub fn across_at(g: Measure, unit: u32, v: Value, at: Spot) -> Spot
 
 // The cursor behind &a#V, *p#Y, &a#R.
 pub fn down_at(g: Measure, base: u64, unit: u32, v: Value, at: Spot) -> Spot
-    requires { ⌜ (g .wide ≤ 600) × (g .high ≤ 6800) × (base < 8589934592) ⌝ }
+    requires { ⌜ Bounded g × (base < 8589934592) ⌝ }
     ensures { λ r. ⌜ r ≡ downSpot g base unit v at ⌝ }
 {
     let y = into_height(g, target(base, at.y, unit, v));

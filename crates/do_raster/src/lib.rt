@@ -10,7 +10,7 @@ ghost use Rattle.rules.specs.declared.Value.{Value};
 ghost use Rattle.rules.specs.declared.Spot.{Spot};
 ghost use Rattle.rules.specs.declared.Layout.{Layout};
 ghost use Rattle.rules.specs.declared.Kind.the-variants.{Resolution, StartRaster, EndRaster, ResetRaster, SkipRows};
-ghost use Rattle.rules.specs.Measure.{inch};
+ghost use Rattle.rules.specs.Measure.{Bounded, inch};
 ghost use Rattle.rules.specs.Number.{wholePart};
 ghost use Rattle.do_change.specs.Changed.{Changed};
 use do_change::Change;
@@ -95,7 +95,7 @@ pub fn reset_at(r: Raster) -> Change
 
 // *b#Y: the cursor n rows further down, if raster is started.
 pub fn skip_at(g: Measure, n: u32, at: Spot, r: Raster) -> Change
-    requires { ⌜ (g .wide ≤ 600) × (g .high ≤ 6800) × (n ≤ 429496) ⌝ }
+    requires { ⌜ Bounded g × (n ≤ 429496) ⌝ }
     ensures { λ q. ⌜ ((v : Value) (l : Layout) (deep : ℕ) → n ≡ wholePart v → Changed g SkipRows v at l r deep q) ⌝ }
 {
     if r.started {

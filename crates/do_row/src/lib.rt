@@ -6,7 +6,7 @@ ghost use Prim.Native.Nat.{_/_, _≤_};
 ghost use lib.ListN.{length, drop, take};
 ghost use Rattle.rules.specs.declared.Core.{Core};
 ghost use Rattle.rules.specs.declared.Command.the-variants.{Row};
-ghost use Rattle.rules.specs.Measure.{dotUnit};
+ghost use Rattle.rules.specs.Measure.{Bounded, dotUnit};
 ghost use Rattle.rules.specs.Sound.{allZero};
 ghost use Rattle.rules.specs.Dots.{painted};
 ghost use Rattle.rules.specs.Acts.{meanCommand};
@@ -68,7 +68,7 @@ pub fn do_row(
     m: Beside,
     seed: &mut [u8; 600],
 ) -> Deed
-    requires { ⌜ (g .wide ≤ 600) × (g .high ≤ 6800) × (allZero (drop (g .wide) (now seed)) ≡ true) × (length (now seed) ≡ 600) ⌝ }
+    requires { ⌜ Bounded g × (allZero (drop (g .wide) (now seed)) ≡ true) × (length (now seed) ≡ 600) ⌝ }
     ensures { λ r. ⌜ DeedOn g (λ (c : Core). meanCommand g (Row v) (now (payload .entry)) c m) p (now (seed .entry)) (now (page .entry)) r (now (seed .exit)) (now (page .exit)) ⌝ }
 {
     if whole_negative(v) {

@@ -2,6 +2,7 @@
 ghost use mathlib.Core.Path.{_≡_};
 ghost use mathlib.Core.Bool.{cond};
 ghost use Prim.Native.Nat.{_≤_};
+ghost use Rattle.rules.specs.Measure.{Bounded};
 ghost use Rattle.rules.specs.States.{zeroSeed};
 ghost use Rattle.do_seed.specs.Cursor.{rasterBegun, rowSpot};
 use rules::Measure;
@@ -38,7 +39,7 @@ pub fn begin_seed(started: bool, seed: &mut [u8; 600])
 
 // The cursor behind a row.
 pub fn row_at(g: Measure, at: Spot, r: Raster) -> Spot
-    requires { ⌜ (g .wide ≤ 600) × (g .high ≤ 6800) ⌝ }
+    requires { ⌜ Bounded g ⌝ }
     ensures { λ p. ⌜ p ≡ rowSpot g at r ⌝ }
 {
     let x = into_width(g, r.margin as u64);

@@ -6,6 +6,7 @@ ghost use mathlib.Core.List.{List};
 ghost use Prim.Native.Nat.{ℕ, _≤_};
 ghost use Rattle.rules.specs.declared.Core.{Core};
 ghost use Rattle.rules.specs.declared.Escape.the-variants.{Reset, ClearMargins, HalfLine};
+ghost use Rattle.rules.specs.Measure.{Bounded};
 ghost use Rattle.rules.specs.Items.{text};
 ghost use Rattle.rules.specs.Acts.{gate, control, escape, meanCode, meanTwo, mean};
 ghost use Rattle.do_deed.specs.Deeds.{DeedFor};
@@ -64,7 +65,7 @@ fn used_behind(ended: bool, used: bool) -> bool
 
 // A control code.
 fn do_code(g: Measure, k: Code, p: Pen, m: Beside) -> Deed
-    requires { ⌜ (g .wide ≤ 600) × (g .high ≤ 6800) ⌝ }
+    requires { ⌜ Bounded g ⌝ }
     ensures { λ r. ⌜ ((b : List ℕ) → DeedFor g (λ (c : Core). gate g (control k) c m) p b r b) ⌝ }
 {
     let from = p.at;
@@ -86,7 +87,7 @@ fn do_code(g: Measure, k: Code, p: Pen, m: Beside) -> Deed
 
 // The byte of a control code: other codes do nothing and give no finding.
 fn do_code_byte(g: Measure, b: u8, p: Pen, m: Beside) -> Deed
-    requires { ⌜ (g .wide ≤ 600) × (g .high ≤ 6800) ⌝ }
+    requires { ⌜ Bounded g ⌝ }
     ensures { λ r. ⌜ ((s : List ℕ) → DeedFor g (λ (c : Core). meanCode g b c m) p s r s) ⌝ }
 {
     let k = code_of(b);
@@ -110,7 +111,7 @@ fn escape_of(b: u8) -> Escaping
 
 // ESC E: ends the page if used, then everything afresh.
 fn do_reset(g: Measure, p: Pen, seed: &mut [u8; 600]) -> Deed
-    requires { ⌜ (g .wide ≤ 600) × (g .high ≤ 6800) ⌝ }
+    requires { ⌜ Bounded g ⌝ }
     ensures { λ r. ⌜ ((m : Beside) → DeedFor g (λ (c : Core). gate g (escape Reset) c m) p (now (seed .entry)) r (now (seed .exit))) ⌝ }
 {
     *seed = [0u8; 600];
@@ -127,7 +128,7 @@ fn do_reset(g: Measure, p: Pen, seed: &mut [u8; 600]) -> Deed
 
 // ESC 9.
 fn do_margins(g: Measure, p: Pen, m: Beside) -> Deed
-    requires { ⌜ (g .wide ≤ 600) × (g .high ≤ 6800) ⌝ }
+    requires { ⌜ Bounded g ⌝ }
     ensures { λ r. ⌜ ((b : List ℕ) → DeedFor g (λ (c : Core). gate g (escape ClearMargins) c m) p b r b) ⌝ }
 {
     let before = p.layout;
@@ -139,7 +140,7 @@ fn do_margins(g: Measure, p: Pen, m: Beside) -> Deed
 
 // ESC =.
 fn do_half_line(g: Measure, p: Pen, m: Beside) -> Deed
-    requires { ⌜ (g .wide ≤ 600) × (g .high ≤ 6800) ⌝ }
+    requires { ⌜ Bounded g ⌝ }
     ensures { λ r. ⌜ ((b : List ℕ) → DeedFor g (λ (c : Core). gate g (escape HalfLine) c m) p b r b) ⌝ }
 {
     let from = p.at;
@@ -152,7 +153,7 @@ fn do_half_line(g: Measure, p: Pen, m: Beside) -> Deed
 
 // A two-byte command.
 fn do_escape(g: Measure, k: Escape, p: Pen, m: Beside, seed: &mut [u8; 600]) -> Deed
-    requires { ⌜ (g .wide ≤ 600) × (g .high ≤ 6800) ⌝ }
+    requires { ⌜ Bounded g ⌝ }
     ensures { λ r. ⌜ DeedFor g (λ (c : Core). gate g (escape k) c m) p (now (seed .entry)) r (now (seed .exit)) ⌝ }
 {
     match k {
@@ -164,7 +165,7 @@ fn do_escape(g: Measure, k: Escape, p: Pen, m: Beside, seed: &mut [u8; 600]) -> 
 
 // The byte of a two-byte command.
 fn do_escape_byte(g: Measure, b: u8, p: Pen, m: Beside, seed: &mut [u8; 600]) -> Deed
-    requires { ⌜ (g .wide ≤ 600) × (g .high ≤ 6800) ⌝ }
+    requires { ⌜ Bounded g ⌝ }
     ensures { λ r. ⌜ DeedFor g (λ (c : Core). meanTwo g b c m) p (now (seed .entry)) r (now (seed .exit)) ⌝ }
 {
     let k = escape_of(b);
@@ -176,7 +177,7 @@ fn do_escape_byte(g: Measure, b: u8, p: Pen, m: Beside, seed: &mut [u8; 600]) ->
 
 // A space or a text byte.
 fn do_text(g: Measure, b: u8, p: Pen, m: Beside) -> Deed
-    requires { ⌜ (g .wide ≤ 600) × (g .high ≤ 6800) ⌝ }
+    requires { ⌜ Bounded g ⌝ }
     ensures { λ r. ⌜ ((s : List ℕ) → DeedFor g (λ (c : Core). mean g (text b) c m) p s r s) ⌝ }
 {
     let from = p.at;
@@ -191,7 +192,7 @@ fn do_text(g: Measure, b: u8, p: Pen, m: Beside) -> Deed
 
 // An item that is no command: one byte, two, or a broken piece, which does nothing but give its finding.
 pub fn do_bytes(g: Measure, i: Item, p: Pen, m: Beside, seed: &mut [u8; 600]) -> Deed
-    requires { ⌜ (g .wide ≤ 600) × (g .high ≤ 6800) ⌝ }
+    requires { ⌜ Bounded g ⌝ }
     ensures { λ r. ⌜ DeedFor g (λ (c : Core). meanBytes g i c m) p (now (seed .entry)) r (now (seed .exit)) ⌝ }
 {
     match i {

@@ -4,7 +4,7 @@ ghost use mathlib.Core.Path.{_≡_};
 ghost use mathlib.Core.Bool.{cond, not, _||_};
 ghost use Prim.Native.Nat.{_≤_};
 ghost use lib.Dec.{eqb, leb};
-ghost use Rattle.rules.specs.Measure.{LW};
+ghost use Rattle.rules.specs.Measure.{Bounded, LW};
 ghost use Rattle.do_text.specs.Cursor.{forwardSpot, typedSpot, TypedAll};
 use rules::Layout;
 use rules::Measure;
@@ -15,7 +15,7 @@ use state_page::width;
 
 // Where a move forward stops: R if x ≤ R, else LW.
 fn stop_at(g: Measure, x: u32, right: u32) -> u32
-    requires { ⌜ (g .wide ≤ 600) × (g .high ≤ 6800) ⌝ }
+    requires { ⌜ Bounded g ⌝ }
     ensures { λ r. ⌜ r ≡ cond (leb x right) right (LW g) ⌝ }
 {
     if x <= right { right } else { width(g) }
@@ -23,7 +23,7 @@ fn stop_at(g: Measure, x: u32, right: u32) -> u32
 
 // The cursor moved forward to n, as far as it may.
 pub fn forward_at(g: Measure, n: u64, at: Spot, l: Layout) -> Spot
-    requires { ⌜ (g .wide ≤ 600) × (g .high ≤ 6800) ⌝ }
+    requires { ⌜ Bounded g ⌝ }
     ensures { λ r. ⌜ r ≡ forwardSpot g n at l ⌝ }
 {
     let stop = stop_at(g, at.x, l.right) as u64;
@@ -33,7 +33,7 @@ pub fn forward_at(g: Measure, n: u64, at: Spot, l: Layout) -> Spot
 
 // The cursor behind a space or a text byte.
 pub fn typed_at(g: Measure, at: Spot, l: Layout) -> Spot
-    requires { ⌜ (g .wide ≤ 600) × (g .high ≤ 6800) ⌝ }
+    requires { ⌜ Bounded g ⌝ }
     ensures { λ r. ⌜ r ≡ typedSpot g at l ⌝ }
 {
     forward_at(g, at.x as u64 + l.hmi as u64, at, l)
@@ -54,7 +54,7 @@ pub struct Typed {
 
 // &p#X: each payload byte moves as text.
 pub fn typed_all(g: Measure, s: &[u8], from: Spot, l: Layout, was: bool) -> Typed
-    requires { ⌜ (g .wide ≤ 600) × (g .high ≤ 6800) ⌝ }
+    requires { ⌜ Bounded g ⌝ }
     ensures { λ r. ⌜ TypedAll g (now (s .entry)) from l was r ⌝ }
 {
     let mut at = from;

@@ -1,23 +1,9 @@
-// A page's dots: a page is cleared, and the dots set on it are counted. Refuses nothing; who counts is asked for a page of
-// at most 2^32 bytes, so that the sum fits.
+// A page's dots: those set on it are counted. Refuses nothing; who counts is asked for a page of at most 2^32 bytes, so that the sum fits.
 ghost use mathlib.Core.Path.{_≡_};
-ghost use mathlib.Core.List.{_++_};
-ghost use Prim.Native.Nat.{_+_, _≤_, min};
-ghost use lib.ListN.{length, drop, replicate};
+ghost use Prim.Native.Nat.{_+_, _≤_};
+ghost use lib.ListN.{length, drop};
 ghost use Rattle.common.specs.Bits.{onesAll};
 ghost use Rattle.dot_page.specs.Zeros.{FirstZero};
-
-// The first n bytes zeroed, or as many as there are.
-pub fn clear(page: &mut [u8], n: usize)
-    ensures { λ _. ⌜ now (page .exit) ≡ replicate (min n (length (now (page .entry)))) 0 ++ drop n (now (page .entry)) ⌝ }
-{
-    let e = common::least(n, page.len());
-    let mut i: usize = 0;
-    while i < e {
-        page[i] = 0;
-        i += 1;
-    }
-}
 
 // The dots of sixteen bytes from a place on, at most 128: summed in a byte.
 fn sixteen(page: &[u8], at: usize) -> u8

@@ -115,7 +115,7 @@ pub extern "C" fn rov_paint(
 pub extern "C" fn rov_clear(page: &mut [u8], n: usize)
     ensures { λ _. ⌜ now (page .exit) ≡ replicate (min n (length (now (page .entry)))) 0 ++ drop n (now (page .entry)) ⌝ }
 {
-    dot_page::clear(page, n);
+    common::clear(page, n);
 }
 
 // The dots set on a page.

@@ -7,10 +7,9 @@ use Rattle.common.proofs.Stores.{wrote-both}
 use Rattle.rules.specs.declared.Finding.{Finding}
 use Rattle.rules.specs.declared.Spot.{Spot}
 use Rattle.rules.specs.Findings.{findingNumber}
-use Rattle.rules.specs.Report.{line, FAULT, fault}
+use Rattle.rules.specs.Report.{line, FAULT, fault, told}
 use Rattle.report_line.proofs.Texts.{line-append}
 use Rattle.report_fault.proofs.Writing.{number-found, number-clean}
-use Rattle.report_laws.specs.Left.{told}
 use Rattle.report_laws.proofs.Reporting.{Ahead}
 use Rattle.pages_mark.specs.Marks.{MARK, marked}
 

@@ -1,8 +1,7 @@
 -- Not the paper's: what the program `pages` says of a finding besides the report's line, so that it can be marked on the page.
 use Prim.Native.Nat.{ℕ}
 use mathlib.Core.List.{List, [], _∷_}
-use Rattle.rules.specs.Report.{line, FAULT}
-use Rattle.report_laws.specs.Left.{Saying}
+use Rattle.rules.specs.Report.{line, FAULT, Saying}
 
 abbrev pub MARK : List ℕ
 MARK = 77 ∷ 65 ∷ 82 ∷ 75 ∷ []

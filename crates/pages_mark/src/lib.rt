@@ -2,8 +2,8 @@
 // who draws pages can mark it there. Nothing is refused: what has no room is not written.
 ghost use mathlib.Core.List.{[]};
 ghost use Rattle.common.specs.Stores.{Wrote};
-ghost use Rattle.report_laws.specs.Left.{told};
 ghost use Rattle.pages_mark.specs.Marks.{marked};
+ghost use Rattle.rules.specs.Report.{told};
 use number_finding::finding_number;
 use report_fault::write_fault;
 use report_line::write_four;

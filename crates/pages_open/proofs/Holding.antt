@@ -12,14 +12,14 @@ use Rattle.common.proofs.Choices.{choice}
 use Rattle.common.proofs.Stores.{wrote-both}
 use Rattle.rules.specs.declared.Refusal.{Refusal}
 use Rattle.rules.specs.declared.Refusal.the-variants.{PageMeasure, StreamLength}
-use Rattle.rules.specs.Measure.{allowed, longestStream}
+use Rattle.rules.specs.Measure.{allowed, longestStream, isTooLong}
 use Rattle.rules.specs.Findings.{refusalNumber}
 use Rattle.rules.specs.Plain.{decimal}
-use Rattle.rules.specs.Report.{fields, line, SIZE}
+use Rattle.rules.specs.Report.{fields, line, SIZE, refusedLine}
 use Rattle.number_write.proofs.Laws.{decimal-append, decimal-short}
 use Rattle.report_line.proofs.Texts.{line-append}
 use Rattle.report_laws.proofs.Bound.{number-length, two-length}
-use Rattle.pages_open.specs.Opening.{Holds, longestHead, longestLines, pbmHead, tooLong, refusedLine, firstLines, Begins}
+use Rattle.pages_open.specs.Opening.{Holds, longestHead, longestLines, pbmHead, firstLines, Begins}
 
 -- a text within the bound that was written is there whole, where there is room for the longest
 pub held : {most : ℕ} {text before after : List ℕ} {r : ℕ} → length text ≤ most → Wrote before 0 text after r → Holds most text before after r
@@ -52,7 +52,7 @@ refused-most why = let a = number-length (refusalNumber why) (10 ∷ []) in let 
 -- the first lines
 first-most : (W H : ℕ) (s : List ℕ) → length (firstLines W H s) ≤ longestLines
 first-most W H s = choice (λ l. length (line SIZE (W ∷ H ∷ []) l) ≤ longestLines) (not (allowed W H)) (size PageMeasure)
-    (choice (λ l. length (line SIZE (W ∷ H ∷ []) l) ≤ longestLines) (tooLong s) (size StreamLength) (let e = two-most W H [] in omega arith))
+    (choice (λ l. length (line SIZE (W ∷ H ∷ []) l) ≤ longestLines) (isTooLong s) (size StreamLength) (let e = two-most W H [] in omega arith))
   where
     size : (why : Refusal) → length (line SIZE (W ∷ H ∷ []) (refusedLine why)) ≤ longestLines
     size why = let e = two-most W H (refusedLine why) in let i = refused-most why in omega arith

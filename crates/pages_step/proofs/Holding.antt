@@ -15,9 +15,9 @@ use Rattle.rules.specs.declared.State.{State}
 use Rattle.rules.specs.declared.Ran.{Ran}
 use Rattle.rules.specs.Findings.{findingNumber, isClean}
 use Rattle.rules.specs.Acts.{World, world}
-use Rattle.rules.specs.Report.{line, PAGE, END, lastLines}
+use Rattle.rules.specs.Report.{line, PAGE, END, lastLines, counted, told}
 use Rattle.theorems.specs.Statements.{RunPromise}
-use Rattle.report_laws.specs.Left.{told, counted, printed}
+use Rattle.report_laws.specs.Left.{printed}
 use Rattle.report_laws.proofs.Bound.{end-length, four-length}
 use Rattle.report_laws.proofs.Reporting.{wrote-told}
 use Rattle.pages_mark.specs.Marks.{MARK, marked}

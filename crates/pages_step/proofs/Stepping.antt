@@ -9,19 +9,19 @@ use lib.Seq.{length-take-le}
 use borrow.Author.Tests.{ltb-false}
 use Rattle.rules.specs.declared.Measure.{Measure}
 use Rattle.rules.specs.declared.State.{State}
-use Rattle.rules.specs.Measure.{allowed, measureOf, pageBytes, longestStream}
+use Rattle.rules.specs.Measure.{Bounded, allowed, measureOf, pageBytes, longestStream, isTooLong}
 use Rattle.rules.specs.States.{afresh}
 use Rattle.theorems.proofs.Reading.{left}
 use Rattle.theorems.proofs.Measures.{allowed-gives}
 use Rattle.report_laws.proofs.Reporting.{Going, going-start}
 use Rattle.pages_open.specs.declared.Beginning.{Beginning}
 use Rattle.pages_step.specs.declared.Sheet.{Sheet}
-use Rattle.pages_open.specs.Opening.{tooLong, longestLines, Begins}
+use Rattle.pages_open.specs.Opening.{longestLines, Begins}
 use Rattle.pages_step.specs.Steps.{Stepped}
 use Rattle.pages_step.proofs.Whole.{some, again, less}
 
 -- a page that is allowed is within the largest
-pub allowed-fits : (W H : ℕ) (g : Measure) → allowed W H ≡ true → g ≡ measureOf W H → (g .wide ≤ 600) × (g .high ≤ 6800)
+pub allowed-fits : (W H : ℕ) (g : Measure) → allowed W H ≡ true → g ≡ measureOf W H → Bounded g
 allowed-fits W H g a e = let f = allowed-gives W H a .fits in rw e (f .wide, f .high)
 
 -- the state afresh on it
@@ -42,9 +42,9 @@ part-length n l h = sym (length-take-le n l h)
 
 -- what a job that is not refused is known to be
 pub drawn-job : {W H : ℕ} {s room : List ℕ} {r : Beginning} {after : List ℕ} → Begins W H s room r after → r .refused ≡ false → (allowed W H ≡ true) × (length s ≤ longestStream)
-drawn-job {W} {H} {s} b f = go (allowed W H) (tooLong s) refl (sym (b .refused) ∙ f)
+drawn-job {W} {H} {s} b f = go (allowed W H) (isTooLong s) refl (sym (b .refused) ∙ f)
   where
-    go : (a l : Bool) → tooLong s ≡ l → (not a || l) ≡ false → (a ≡ true) × (length s ≤ longestStream)
+    go : (a l : Bool) → isTooLong s ≡ l → (not a || l) ≡ false → (a ≡ true) × (length s ≤ longestStream)
     go true false x h = (refl, ltb-false longestStream (length s) x)
     go true true x h = absurd (true≢false h)
     go false l x h = absurd (true≢false h)

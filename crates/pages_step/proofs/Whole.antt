@@ -9,20 +9,19 @@ use lib.Dec.{eqb}
 use lib.ListN.{length, drop}
 use borrow.Author.Tests.{eqb-true, eq-eqb, ne-eqb, ltb-false}
 use Rattle.rules.specs.declared.State.{State}
-use Rattle.rules.specs.Measure.{allowed, measureOf, blank, pageBytes, longestStream}
+use Rattle.rules.specs.Measure.{allowed, measureOf, blank, pageBytes, longestStream, isTooLong}
 use Rattle.rules.specs.States.{freshCore, afresh}
 use Rattle.rules.specs.Acts.{world}
 use Rattle.rules.specs.Run.{Outcome, answer, pages}
-use Rattle.rules.specs.Report.{SIZE, lastLines}
+use Rattle.rules.specs.Report.{SIZE, lastLines, counted, streamLines}
 use Rattle.theorems.specs.Statements.{RunPromise}
 use Rattle.theorems.proofs.Reading.{left}
 use Rattle.report_line.proofs.Texts.{line-append}
-use Rattle.report_laws.specs.Left.{drawn, linesLeft, counted, streamLines}
+use Rattle.report_laws.specs.Left.{drawn, linesLeft}
 use Rattle.report_laws.proofs.Items.{left-whole}
 use Rattle.report_laws.proofs.Reporting.{Going, going-start, going-less, going-again, call-ran, call-more, call-over, call-same, lines-again, lines-end}
 use Rattle.pages_mark.specs.Marks.{marked}
 use Rattle.pages_mark.proofs.Marking.{marked-ahead}
-use Rattle.pages_open.specs.Opening.{tooLong}
 use Rattle.pages_step.specs.Sheets.{pageSheets}
 use Rattle.pages_step.specs.Left.{pagesLeft}
 use Rattle.pages_step.specs.Steps.{stepItems, Written, written, stepWrites, steps, jobSteps, WritesAll, StepsWriteTheJob}
@@ -108,9 +107,9 @@ module _ (W H : ℕ) (allow : allowed W H ≡ true) (s : List ℕ) (long : lengt
 
 -- the first lines and the steps together write the whole job
 pub steps-write-the-job : StepsWriteTheJob
-steps-write-the-job W H s page e = go (allowed W H) refl (tooLong s) refl
+steps-write-the-job W H s page e = go (allowed W H) refl (isTooLong s) refl
   where
-    go : (a : Bool) → allowed W H ≡ a → (b : Bool) → tooLong s ≡ b → WritesAll W H s page
+    go : (a : Bool) → allowed W H ≡ a → (b : Bool) → isTooLong s ≡ b → WritesAll W H s page
     go false x b y = record { lines = rw x (append-nil _); pages = rw x }
     go true x true y = record { lines = rw (x, y) (append-nil _); pages = rw (x, y) }
     go true x false y =

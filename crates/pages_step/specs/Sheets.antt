@@ -6,13 +6,12 @@ use mathlib.Core.List.{List, [], _∷_, _++_}
 use lib.ListN.{length, replicate}
 use Rattle.rules.specs.declared.Measure.{Measure}
 use Rattle.rules.specs.declared.Refusal.the-variants.{PageMeasure, StreamLength}
-use Rattle.rules.specs.Measure.{allowed, measureOf, pageBytes}
+use Rattle.rules.specs.Measure.{allowed, measureOf, pageBytes, isTooLong}
 use Rattle.rules.specs.Acts.{World}
 use Rattle.rules.specs.Run.{pages}
-use Rattle.rules.specs.Report.{line, SIZE}
-use Rattle.report_laws.specs.Left.{streamLines}
+use Rattle.rules.specs.Report.{line, SIZE, streamLines, refusedLine}
 use Rattle.pages_mark.specs.Marks.{marked}
-use Rattle.pages_open.specs.Opening.{pbmHead, tooLong, isRefused, refusedLine}
+use Rattle.pages_open.specs.Opening.{pbmHead, jobRefused}
 
 -- ---- pages
 -- a page as PBM: its head, and its bytes as the page buffer has them
@@ -31,13 +30,13 @@ pageSheets w = w .handed ++ cond (w .core .used) (w .page ∷ []) []
 -- ---- the whole
 -- standard output
 abbrev pub jobPages : ℕ → ℕ → List ℕ → List ℕ
-jobPages W H s = cond (isRefused W H s) [] (pbms W H (pageSheets (pages (measureOf W H) s)))
+jobPages W H s = cond (jobRefused W H s) [] (pbms W H (pageSheets (pages (measureOf W H) s)))
 
 -- the lines of standard error: "SIZE, W, H; in item order FAULT .., and PAGE ..; a used last page too; then END", as the report has them, with MARK behind
 -- each FAULT
 abbrev pub jobLines : ℕ → ℕ → List ℕ → List ℕ
 jobLines W H s =
-    let drawn = cond (tooLong s) (refusedLine StreamLength) (streamLines marked (measureOf W H) s) in
+    let drawn = cond (isTooLong s) (refusedLine StreamLength) (streamLines marked (measureOf W H) s) in
     line SIZE (W ∷ H ∷ []) (cond (not (allowed W H)) (refusedLine PageMeasure) drawn)
 
 -- ---- a reader of PBM finds each page where the one before ends: all have H rows of W/8 bytes

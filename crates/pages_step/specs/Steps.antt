@@ -11,11 +11,11 @@ use Rattle.rules.specs.Measure.{measureOf, pageBytes}
 use Rattle.rules.specs.States.{afresh}
 use Rattle.rules.specs.Acts.{world}
 use Rattle.rules.specs.Run.{Outcome, answer, enough}
-use Rattle.rules.specs.Report.{lastLines}
-use Rattle.report_laws.specs.Left.{counted, printed}
+use Rattle.rules.specs.Report.{lastLines, counted}
+use Rattle.report_laws.specs.Left.{printed}
 use Rattle.pages_step.specs.declared.Sheet.{Sheet}
 use Rattle.pages_mark.specs.Marks.{marked}
-use Rattle.pages_open.specs.Opening.{Holds, longestLines, firstLines, isRefused}
+use Rattle.pages_open.specs.Opening.{Holds, longestLines, firstLines, jobRefused}
 use Rattle.pages_step.specs.Sheets.{pbms, jobPages, jobLines}
 
 -- ---- a step
@@ -79,8 +79,8 @@ jobSteps W H s page = steps (enough s) W H s page (afresh (measureOf W H)) 0 1 0
 
 -- the first lines and the steps together write the whole job: every line and every page, in order, and nothing else
 pub record WritesAll (W H : ℕ) (s page : List ℕ) : Type 0 where
-  pub lines : firstLines W H s ++ cond (isRefused W H s) [] (jobSteps W H s page .lines) ≡ jobLines W H s
-  pub pages : cond (isRefused W H s) [] (pbms W H (jobSteps W H s page .pages)) ≡ jobPages W H s
+  pub lines : firstLines W H s ++ cond (jobRefused W H s) [] (jobSteps W H s page .lines) ≡ jobLines W H s
+  pub pages : cond (jobRefused W H s) [] (pbms W H (jobSteps W H s page .pages)) ≡ jobPages W H s
 
 abbrev pub StepsWriteTheJob : Type 0
 StepsWriteTheJob = (W H : ℕ) (s page : List ℕ) → length page ≡ pageBytes (measureOf W H) → WritesAll W H s page

@@ -10,7 +10,7 @@ use pages_mark::write_marked;
 use report_page::write_last;
 use report_page::write_page_if;
 use report_run::count_of;
-use report_run::one_if;
+use common::flag;
 use rules::Ran;
 use rules::State;
 
@@ -83,7 +83,7 @@ pub fn next(
     let o = run::run(page, w, h, s, t, place, ALLOWANCE, zeros);
     let end = write_lines(o, number, findings, page, *zeros, room);
     let drawn = is_drawn(o);
-    let next_number = number + one_if(o.ended);
+    let next_number = number + flag(o.ended);
     let f = o.finding;
     let all_findings = findings + count_of(f);
     let state = o.state;

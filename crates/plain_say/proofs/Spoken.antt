@@ -16,12 +16,12 @@ use Rattle.rules.specs.declared.Verdict.{Verdict}
 use Rattle.rules.specs.declared.Verdict.the-variants.{Carried, Refused}
 use Rattle.rules.specs.declared.Translated.{Translated}
 use Rattle.rules.specs.Measure.{allowed, measureOf, longestStream}
-use Rattle.rules.specs.Findings.{refusalNumber}
+use Rattle.rules.specs.Findings.{refusalNumber, isRefused}
 use Rattle.rules.specs.Plain.{plain, Translation, translation, refusedRoom, tooLong, translate}
-use Rattle.rules.specs.Report.{line, REFUSED}
+use Rattle.rules.specs.Report.{line, REFUSED, refusedLine}
 use Rattle.theorems.specs.Statements.{TranslatePromise}
 use Rattle.plain_say.specs.declared.Saying.{Saying}
-use Rattle.plain_say.specs.Said.{isRefused, refusedLine, saidBy, verdictOf, said, SaysRefused, Says}
+use Rattle.plain_say.specs.Said.{saidBy, verdictOf, said, SaysRefused, Says}
 
 abbrev sayingOf : Bool → ℕ → Saying
 sayingOf t n = record { refused = t; end = n }

@@ -1,7 +1,7 @@
 -- What the program `plain` says: the plain stream, or "a refusal .. in one line", REFUSED and its number.
 use mathlib.Core.Path.{_≡_}
-use mathlib.Core.Bool.{Bool, true, false}
-use mathlib.Core.List.{List, [], _∷_}
+use mathlib.Core.Bool.{true}
+use mathlib.Core.List.{List}
 use Prim.Native.Nat.{ℕ, _≤_, min}
 use lib.ListN.{length}
 use lib.Seq.{sets}
@@ -9,17 +9,10 @@ use Rattle.rules.specs.declared.Refusal.{Refusal}
 use Rattle.rules.specs.declared.Verdict.{Verdict}
 use Rattle.rules.specs.declared.Verdict.the-variants.{Carried, Refused}
 use Rattle.rules.specs.Measure.{measureOf}
-use Rattle.rules.specs.Findings.{refusalNumber}
+use Rattle.rules.specs.Findings.{isRefused}
 use Rattle.rules.specs.Plain.{plain, translate}
-use Rattle.rules.specs.Report.{line, REFUSED}
+use Rattle.rules.specs.Report.{refusedLine}
 use Rattle.plain_say.specs.declared.Saying.{Saying}
-
-abbrev pub isRefused : Verdict → Bool
-isRefused Carried = false
-isRefused (Refused why) = true
-
-abbrev pub refusedLine : Refusal → List ℕ
-refusedLine why = line REFUSED (refusalNumber why ∷ []) []
 
 -- by the verdict, and the plain stream p
 abbrev pub saidBy : Verdict → List ℕ → List ℕ

@@ -16,7 +16,7 @@ use Rattle.rules.specs.declared.Refusal.the-variants.{PageMeasure, StreamLength
 use Rattle.rules.specs.declared.Verdict.the-variants.{Carried}
 use Rattle.rules.specs.declared.Translated.{Translated}
 use Rattle.rules.specs.Measure.{allowed, measureOf, longestStream}
-use Rattle.rules.specs.Plain.{plain, refusedRoom, tooLong, translate}
+use Rattle.rules.specs.Plain.{plain, refusedRoom, noRoom, translate}
 use Rattle.theorems.specs.Statements.{TranslatePromise}
 use Rattle.theorems.proofs.Theorems.{every-stream-has-a-plain-stream}
 use Rattle.common.proofs.Choices.{or-true-left, or-true-right, or-neither, le-or-lt}
@@ -52,7 +52,7 @@ module _ (W H : ℕ) (stream room : List ℕ) (r : Translated) (x : Bool) (a : x
       long = length (plain (measureOf W H) stream)
 
       -- more is to be written than there is room for, or than a stream may have: 15
-      short : most < long → tooLong (plain (measureOf W H) stream) room ≡ true
+      short : most < long → noRoom (plain (measureOf W H) stream) room ≡ true
       short l = ⊎-elim
           (λ e. or-true-right (ltb (length room) long) (ltb longestStream long) (lt-ltb longestStream long (omega arith)))
           (λ e. or-true-left (ltb (length room) long) (ltb longestStream long) (lt-ltb (length room) long e))
@@ -71,7 +71,7 @@ module _ (W H : ℕ) (stream room : List ℕ) (r : Translated) (x : Bool) (a : x
       carried l after q p h =
           let y = le-ltb longestStream (length stream) c in
           let e : n ≡ long = rw (m, zero-add) at (k .whole l .next) in
-          let t : tooLong (plain (measureOf W H) stream) room ≡ false = or-neither (ltb (length room) long) (ltb longestStream long) (le-ltb (length room) long (omega arith)) (le-ltb longestStream long (omega arith)) in
+          let t : noRoom (plain (measureOf W H) stream) room ≡ false = or-neither (ltb (length room) long) (ltb longestStream long) (le-ltb (length room) long (omega arith)) (le-ltb longestStream long (omega arith)) in
           let i : q ≤ most = ⊎-elim (λ j. j) (λ j. let o : most < long = rw m at (p .beyond j) in absurd (omega arith)) (le-or-lt q most) in
           let u : after ≡ sets room 0 (plain (measureOf W H) stream) = rw (m, no-bytes none z) at (p .whole i .held) in
           let v = sets-eq (plain (measureOf W H) stream) room 0 (rw zero-add (omega arith)) in

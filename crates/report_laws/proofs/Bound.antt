@@ -20,14 +20,14 @@ use Rattle.rules.specs.Findings.{findingNumber, isClean}
 use Rattle.rules.specs.Plain.{decimalUpTo, decimal}
 use Rattle.rules.specs.Acts.{World, world, step, over, showAll}
 use Rattle.rules.specs.Run.{wholeStream, firstWorld}
-use Rattle.rules.specs.Report.{faults, fields, line, SIZE, REFUSED, reportWidth, reportHeight, reportLimit, reportPage, report, PAGE, END, fault, pageLines, lastLines}
+use Rattle.rules.specs.Report.{faults, fields, line, SIZE, REFUSED, reportWidth, reportHeight, reportLimit, reportPage, report, PAGE, END, fault, pageLines, lastLines, counted, faultAlone, streamLines}
 use Rattle.number_write.proofs.Laws.{decimal-append, decimal-short}
 use Rattle.theorems.proofs.Reading.{left, left-zero}
 use Rattle.theorems.proofs.Streams.{step-left}
 use Rattle.theorems.proofs.Suffixes.{step-took}
-use Rattle.report_laws.specs.Left.{faultAlone, counted, linesLeft, streamLines}
+use Rattle.report_laws.specs.Left.{linesLeft}
 use Rattle.report_laws.specs.Bound.{longestReport, ReportsFit}
-use Rattle.report_laws.proofs.Items.{report-lines, left-whole, left-over, left-step, turned}
+use Rattle.report_laws.proofs.Items.{left-whole, left-over, left-step, turned}
 use Rattle.report_laws.proofs.Ends.{step-apart, step-two}
 
 -- ---- numbers
@@ -172,10 +172,8 @@ refused-length = let a = number-length 12 (10 ∷ []) in let b = decimal-short 1
 
 -- a room of the longest report holds any
 pub reports-fit : ReportsFit
-unfolding report streamLines
+unfolding report
 reports-fit s =
-    let l = wholeStream reportPage s .items in
-    rw (← report-lines reportPage l 0 1 (firstWorld reportPage) (faults l))
-    (choice-by (λ (l : List ℕ). length (line SIZE (reportWidth ∷ reportHeight ∷ []) l) ≤ longestReport) (ltb reportLimit (length s))
+    choice-by (λ (l : List ℕ). length (line SIZE (reportWidth ∷ reportHeight ∷ []) l) ≤ longestReport) (ltb reportLimit (length s))
     (λ e. let n = size-length (line REFUSED (12 ∷ []) []) in let m = refused-length in omega arith)
-    (λ e. let n = size-length (streamLines faultAlone reportPage s) in let m = stream-length reportPage s (ltb-false reportLimit (length s) e) in omega arith))
+    (λ e. let n = size-length (streamLines faultAlone reportPage s) in let m = stream-length reportPage s (ltb-false reportLimit (length s) e) in omega arith)

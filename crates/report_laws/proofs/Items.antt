@@ -16,12 +16,12 @@ use Rattle.rules.specs.Measure.{blank}
 use Rattle.rules.specs.States.{afresh}
 use Rattle.rules.specs.Acts.{World, world, showAll, nextAll, Done, Step, step, over}
 use Rattle.rules.specs.Run.{pageOf, Trace, trace, enough, wholeStream}
-use Rattle.rules.specs.Report.{fault, pageLines, faults, lastLines, itemLines}
+use Rattle.rules.specs.Report.{fault, pageLines, faults, lastLines, itemLines, Saying, counted, faultAlone, streamLines, told}
 use Rattle.theorems.proofs.Reading.{left}
 use Rattle.theorems.proofs.Streams.{step-left, to-end}
 use Rattle.theorems.proofs.Pages.{step-single, afterItem, item-pages, showAll-core}
 use Rattle.theorems.proofs.Jobs.{same-end}
-use Rattle.report_laws.specs.Left.{Saying, faultAlone, told, toldLines, counted, linesLeft, streamLines}
+use Rattle.report_laws.specs.Left.{linesLeft}
 
 -- what is left is less than enough
 pub left-enough : (q : Sequence) (s : List ℕ) → left q s ≤ enough s
@@ -29,18 +29,10 @@ unfolding left
 left-enough Closed s = omega arith
 left-enough (Open f g) s = omega arith
 
--- the report's own lines
-pub report-lines : (g : Measure) (l : List Done) (at number : ℕ) (w : World) (n : ℕ) → toldLines faultAlone g l at number w n ≡ itemLines g l at number w n
-unfolding toldLines itemLines
-report-lines g [] at number w n = refl
-report-lines g (i ∷ l) at number w n =
-    let w′ = showAll g (i .acts) (world (w .core) (w .page) []) in
-    ap (λ (s : List ℕ). fault at (i .finding) (pageLines number (w′ .handed) s)) (report-lines g l (at + i .took) (number + length (w′ .handed)) w′ n)
-
 module _ (say : Saying) (g : Measure) where
   -- pages handed over before do not matter to what is printed
-  lines-world : (l : List Done) (at number : ℕ) (w : World) (n : ℕ) → toldLines say g l at number w n ≡ toldLines say g l at number (world (w .core) (w .page) []) n
-  unfolding toldLines
+  lines-world : (l : List Done) (at number : ℕ) (w : World) (n : ℕ) → itemLines say g l at number w n ≡ itemLines say g l at number (world (w .core) (w .page) []) n
+  unfolding itemLines
   lines-world [] at number w n = refl
   lines-world (i ∷ l) at number w n = refl
 
@@ -51,11 +43,11 @@ module _ (say : Saying) (g : Measure) where
 
   -- at its end a stream has the last lines alone
   pub left-over : (t : State) (s : List ℕ) (at number : ℕ) (p : List ℕ) (n : ℕ) → over t s ≡ true → linesLeft say g t s at number p n ≡ lastLines number (world (t .core) p []) n
-  unfolding linesLeft toldLines trace faults
+  unfolding linesLeft itemLines trace faults
   left-over t s at number p n e = ap (λ k. go k) (add-one (2 * length s)) ∙ rw (e, add-zero)
     where
       go : ℕ → List ℕ
-      go k = toldLines say g (trace g k t s .items) at number (world (t .core) p []) (n + faults (trace g k t s .items))
+      go k = itemLines say g (trace g k t s .items) at number (world (t .core) p []) (n + faults (trace g k t s .items))
 
 module _ (g : Measure) where
   module _ (t : State) (s : List ℕ) (e : over t s ≡ false) where
@@ -85,13 +77,13 @@ module _ (g : Measure) where
     pub left-step : (say : Saying) (at number : ℕ) (p : List ℕ) (n : ℕ) (q : List ℕ) (ds : List (List ℕ)) → showAll g (S .done .acts) (world (t .core) p []) ≡ world (S .state .core) q ds
         → linesLeft say g t s at number p n
         ≡ told say (t .core .at) at (S .done .finding) (pageLines number ds (linesLeft say g (S .state) (S .rest) (at + S .done .took) (number + length ds) q (n + counted (S .done .finding))))
-    unfolding linesLeft toldLines faults
+    unfolding linesLeft itemLines faults
     left-step say at number p n q ds h =
-        ap (λ (l : List Done). toldLines say g l at number (world (t .core) p []) (n + faults l)) items-step
-        ∙ ap (λ (v : World). told say (t .core .at) at (S .done .finding) (pageLines number (v .handed) (toldLines say g rest (at + S .done .took) (number + length (v .handed)) v (n + (counted (S .done .finding) + faults rest))))) h
+        ap (λ (l : List Done). itemLines say g l at number (world (t .core) p []) (n + faults l)) items-step
+        ∙ ap (λ (v : World). told say (t .core .at) at (S .done .finding) (pageLines number (v .handed) (itemLines say g rest (at + S .done .took) (number + length (v .handed)) v (n + (counted (S .done .finding) + faults rest))))) h
         ∙ ap (λ x. told say (t .core .at) at (S .done .finding) (pageLines number ds x))
         (lines-world say g rest (at + S .done .took) (number + length ds) (world (S .state .core) q ds) (n + (counted (S .done .finding) + faults rest))
-        ∙ ap (λ m. toldLines say g rest (at + S .done .took) (number + length ds) (world (S .state .core) q []) m) (omega arith))
+        ∙ ap (λ m. itemLines say g rest (at + S .done .took) (number + length ds) (world (S .state .core) q []) m) (omega arith))
       where
         rest : List Done
         rest = trace g (enough (S .rest)) (S .state) (S .rest) .items

@@ -20,13 +20,13 @@ use Rattle.rules.specs.Measure.{blank, origin}
 use Rattle.rules.specs.Findings.{isClean, findingNumber}
 use Rattle.rules.specs.Acts.{World, world, showAll, Step, step, over}
 use Rattle.rules.specs.Run.{Outcome, outcome, halted, pageOf, placeOf, spotOf, runFrom, readied, run}
-use Rattle.rules.specs.Report.{line, PAGE, pageLines}
+use Rattle.rules.specs.Report.{line, PAGE, pageLines, Saying, counted, told}
 use Rattle.theorems.proofs.Reading.{left}
 use Rattle.theorems.proofs.Streams.{step-left}
 use Rattle.theorems.proofs.Suffixes.{step-rest, step-took}
 use Rattle.theorems.proofs.Pages.{Blank, showAll-blank, step-single, item-unused}
 use Rattle.theorems.proofs.Runs.{does-one}
-use Rattle.report_laws.specs.Left.{Saying, told, drawn, linesLeft, counted, printed}
+use Rattle.report_laws.specs.Left.{drawn, linesLeft, printed}
 use Rattle.report_laws.proofs.Items.{core-next, core-is, left-step, turned}
 
 -- what is said of a finding has the place of its item, and where that began

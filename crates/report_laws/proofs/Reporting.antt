@@ -14,13 +14,13 @@ use Rattle.rules.specs.declared.Finding.{Finding}
 use Rattle.rules.specs.declared.Spot.{Spot}
 use Rattle.rules.specs.declared.State.{State}
 use Rattle.rules.specs.declared.Ran.{Ran}
-use Rattle.rules.specs.Measure.{allowed, measureOf, blank, longestStream}
+use Rattle.rules.specs.Measure.{Bounded, allowed, measureOf, blank, longestStream}
 use Rattle.rules.specs.States.{freshCore, afresh}
 use Rattle.rules.specs.Sound.{sound}
 use Rattle.rules.specs.Findings.{isClean, findingNumber}
 use Rattle.rules.specs.Acts.{world, over}
 use Rattle.rules.specs.Run.{Outcome, halted, run}
-use Rattle.rules.specs.Report.{line, FAULT, PAGE, fault, lastLines, reportWidth, reportHeight, reportPage}
+use Rattle.rules.specs.Report.{line, FAULT, PAGE, fault, lastLines, reportWidth, reportHeight, reportPage, Saying, counted, faultAlone, streamLines, told}
 use Rattle.theorems.specs.Facts.{Shaped}
 use Rattle.theorems.specs.Statements.{RunPromise}
 use Rattle.theorems.proofs.Reading.{left}
@@ -29,7 +29,7 @@ use Rattle.theorems.proofs.Lengths.{fresh-shaped}
 use Rattle.theorems.proofs.Runs.{run-shaped}
 use Rattle.theorems.proofs.Theorems.{afresh-is-sound}
 use Rattle.report_line.proofs.Texts.{line-append, cond-append}
-use Rattle.report_laws.specs.Left.{Saying, faultAlone, told, drawn, linesLeft, counted, printed, streamLines}
+use Rattle.report_laws.specs.Left.{drawn, linesLeft, printed}
 use Rattle.report_laws.proofs.Items.{left-whole, left-over}
 use Rattle.report_laws.proofs.Printing.{behind, Prints, run-prints, run-over, run-nothing}
 use Rattle.report_laws.proofs.Calls.{carried, run-kept}
@@ -75,7 +75,7 @@ unfolding allowed
 page-allowed = refl
 
 -- it is within the largest
-pub page-fits : (g : Measure) → g ≡ reportPage → (g .wide ≤ 600) × (g .high ≤ 6800)
+pub page-fits : (g : Measure) → g ≡ reportPage → Bounded g
 page-fits g e = rw e (omega arith, omega arith)
 
 -- the state afresh on it

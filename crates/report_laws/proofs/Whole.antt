@@ -11,11 +11,9 @@ use Rattle.common.proofs.Stores.{wrote-both}
 use Rattle.rules.specs.declared.Refusal.the-variants.{StreamLength}
 use Rattle.rules.specs.Findings.{refusalNumber}
 use Rattle.rules.specs.Run.{wholeStream, firstWorld}
-use Rattle.rules.specs.Report.{line, SIZE, REFUSED, faults, reportLimit, reportWidth, reportHeight, reportPage, report}
+use Rattle.rules.specs.Report.{line, SIZE, REFUSED, faults, reportLimit, reportWidth, reportHeight, reportPage, report, faultAlone, streamLines}
 use Rattle.report_line.proofs.Texts.{line-append}
-use Rattle.report_laws.specs.Left.{faultAlone, streamLines}
 use Rattle.report_laws.specs.Bound.{longestReport, Reported}
-use Rattle.report_laws.proofs.Items.{report-lines}
 use Rattle.report_laws.proofs.Bound.{reports-fit}
 
 -- a report that was written is the whole report, where there is room for the longest
@@ -31,10 +29,9 @@ reported {s} {before} {after} {r} w = record { wrote = w; whole = whole }
 module _ {room room1 room2 : List ℕ} {a r : ℕ} (s : List ℕ) (size : Wrote room 0 (line SIZE (reportWidth ∷ reportHeight ∷ []) []) room1 a) where
   -- of a stream within the limit: SIZE, and its lines
   pub reported-lines : length s ≤ reportLimit → Wrote room1 a (streamLines faultAlone reportPage s) room2 r → Reported s room room2 r
-  unfolding report streamLines
+  unfolding report
   reported-lines h w =
-      let l = wholeStream reportPage s .items in
-      reported (rw (le-ltb reportLimit (length s) h, ← report-lines reportPage l 0 1 (firstWorld reportPage) (faults l), line-append SIZE (reportWidth ∷ reportHeight ∷ []) [] (streamLines faultAlone reportPage s)) (wrote-both size w))
+      reported (rw (le-ltb reportLimit (length s) h, line-append SIZE (reportWidth ∷ reportHeight ∷ []) [] (streamLines faultAlone reportPage s)) (wrote-both size w))
 
   -- of a longer one: SIZE and REFUSED
   pub reported-refusal : reportLimit < length s → Wrote room1 a (line REFUSED (refusalNumber StreamLength ∷ []) []) room2 r → Reported s room room2 r

@@ -1,22 +1,15 @@
 // What one run adds to the report: the lines of its finding and of the page that it ended, and what they count.
 // Nothing is refused: what has no room is not written.
 ghost use mathlib.Core.Path.{_≡_};
-ghost use mathlib.Core.Bool.{cond};
 ghost use mathlib.Core.List.{[]};
 ghost use Prim.Native.Nat.{_≤_};
 ghost use lib.ListN.{length};
 ghost use Rattle.common.specs.Stores.{Wrote};
 ghost use Rattle.dot_page.specs.Zeros.{FirstZero};
-ghost use Rattle.report_laws.specs.Left.{faultAlone, counted, printed};
+ghost use Rattle.report_laws.specs.Left.{printed};
+ghost use Rattle.rules.specs.Report.{counted, faultAlone};
 use rules::Finding;
 use rules::Ran;
-
-// A page ended counts one.
-pub fn one_if(ended: bool) -> usize
-    ensures { λ r. ⌜ (r ≡ cond ended 1 0) × (r ≤ 1) ⌝ }
-{
-    if ended { 1 } else { 0 }
-}
 
 // A finding counts one.
 pub fn count_of(f: Finding) -> usize

@@ -6,11 +6,10 @@ ghost use Prim.Native.Nat.{_≤_};
 ghost use lib.ListN.{length};
 ghost use Rattle.common.specs.Stores.{Wrote};
 ghost use Rattle.rules.specs.States.{afresh};
-ghost use Rattle.rules.specs.Report.{reportPage};
-ghost use Rattle.report_laws.specs.Left.{faultAlone, streamLines};
+ghost use Rattle.rules.specs.Report.{reportPage, faultAlone, streamLines};
 ghost use Rattle.report_laws.specs.Bound.{Reported};
 use report_run::count_of;
-use report_run::one_if;
+use common::flag;
 use report_run::write_ran;
 use rules::State;
 
@@ -56,7 +55,7 @@ fn write_stream(s: &[u8], page: &mut [u8], room: &mut [u8], at: usize) -> usize
         }
         let f = o.finding;
         next = write_ran(o, number, page, zeros, room, next);
-        number += one_if(o.ended);
+        number += flag(o.ended);
         findings += count_of(f);
         place = o.place;
         state = t;

@@ -15,7 +15,7 @@ use Rattle.common.proofs.Places.{cut}
 use Rattle.rules.specs.declared.Mode.{Mode}
 use Rattle.rules.specs.declared.Mode.the-variants.{Ready, Offset, Copy, Repeat}
 use Rattle.rules.specs.Rows.{control1, after, isReady, isWhole}
-use Rattle.row_control.specs.Controls.{controlOf, fulls, asked, wholeFrom, Means, Passed, Behind}
+use Rattle.row_control.specs.Controls.{controlOf, fulls, wanted, wholeFrom, Means, Passed, Behind}
 use Rattle.row_control.proofs.Controls.{level, Level, level-cond, levelled}
 
 ready-level : (m : Mode) → isReady m ≡ isReady (level m)
@@ -71,8 +71,8 @@ module _ (by : ℕ → ℕ → Mode) (alike : Level by) where
           rw (e, leb·suc-suc) (whole-copy n (at + b) s)
 
   -- what a mode asks for, in one go
-  whole-asked : (m : Mode) (s : List ℕ) → isWhole by m s ≡ wholeFrom by s (asked m s)
-  unfolding asked isWhole after
+  whole-asked : (m : Mode) (s : List ℕ) → isWhole by m s ≡ wholeFrom by s (wanted m s)
+  unfolding wanted isWhole after
   whole-asked (Ready at) s = rw leb·zero (whole-ready at s)
   whole-asked (Offset n at) s = whole-offset n at s
   whole-asked (Copy n at) s = rw add-one (whole-copy n at s)
@@ -111,7 +111,7 @@ look-on method s i at m r h e f =
     first ∙ whole-level by (levelled method) (by (getD s i 0) 0) (by (getD s i 0) at) (drop (i + 1) s) (levelled method (getD s i 0) 0 at)
     ∙ ap (λ k. isWhole by k (drop (i + 1) s)) (sym (e .is))
     ∙ whole-asked by (levelled method) m (drop (i + 1) s)
-    ∙ whole-later by (levelled method) s (i + 1) (asked m (drop (i + 1) s)) (omega arith)
+    ∙ whole-later by (levelled method) s (i + 1) (wanted m (drop (i + 1) s)) (omega arith)
     ∙ ap (wholeFrom by s) (sym (f .is))
 
 -- the look begins
@@ -171,17 +171,17 @@ passing-end s i j p h =
 -- the place behind what each mode asks for
 module _ (m : Mode) (s : List ℕ) (i : ℕ) where
   pub behind-ready : (at : ℕ) → m ≡ Ready at → Behind m s i i
-  unfolding asked
+  unfolding wanted
   behind-ready at e = rw e (record { is = omega arith; on = omega arith })
 
   pub behind-offset : (n at j : ℕ) → m ≡ Offset n at → Passed s i j → Behind m s i (j + (n + 2))
-  unfolding asked
+  unfolding wanted
   behind-offset n at j e p = let q = p .is in rw e (record { is = omega arith; on = omega arith })
 
   pub behind-copy : (n at : ℕ) → m ≡ Copy n at → Behind m s i (i + (n + 1))
-  unfolding asked
+  unfolding wanted
   behind-copy n at e = rw e (record { is = refl; on = omega arith })
 
   pub behind-repeat : (n at : ℕ) → m ≡ Repeat n at → Behind m s i (i + 1)
-  unfolding asked
+  unfolding wanted
   behind-repeat n at e = rw e (record { is = refl; on = omega arith })

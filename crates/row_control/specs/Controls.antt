@@ -20,11 +20,11 @@ fulls [] = 0
 fulls (b ∷ s) = cond (eqb b 255) (suc (fulls s)) 0
 
 -- the bytes that are asked for in a mode, up to the next control byte, where the payload goes on with s
-unfoldable pub asked : Mode → List ℕ → ℕ
-asked (Ready at) s = 0
-asked (Offset n at) s = fulls s + (n + 2)
-asked (Copy n at) s = n + 1
-asked (Repeat n at) s = 1
+unfoldable pub wanted : Mode → List ℕ → ℕ
+wanted (Ready at) s = 0
+wanted (Offset n at) s = fulls s + (n + 2)
+wanted (Copy n at) s = n + 1
+wanted (Repeat n at) s = 1
 
 -- the byte in front n times; nothing where there is none
 unfoldable pub repeated : ℕ → List ℕ → List ℕ
@@ -61,5 +61,5 @@ pub record Means (want r : Mode) : Type 0 where
 
 -- r is the place behind what a mode asks for from i on
 pub record Behind (m : Mode) (s : List ℕ) (i r : ℕ) : Type 0 where
-  pub is : r ≡ i + asked m (drop i s)
+  pub is : r ≡ i + wanted m (drop i s)
   pub on : i ≤ r

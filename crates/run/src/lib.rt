@@ -13,7 +13,7 @@ ghost use Rattle.rules.specs.Run.{run, refused};
 ghost use Rattle.theorems.specs.Facts.{Fits, Shaped, SoundState};
 ghost use Rattle.theorems.specs.Statements.{RunPromise};
 ghost use Rattle.run_items.specs.Turns.{RunsOn};
-use dot_page::clear;
+use common::clear;
 use rules::Finding;
 use rules::Measure;
 use rules::Ran;

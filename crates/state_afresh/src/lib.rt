@@ -1,6 +1,7 @@
 // Paper 01, "Measures": the state afresh. A measure within 4,800 by 6,800 dots is asked for; beyond it lengths would not fit.
 ghost use mathlib.Core.Path.{_≡_};
 ghost use Prim.Native.Nat.{_≤_};
+ghost use Rattle.rules.specs.Measure.{Bounded};
 ghost use Rattle.rules.specs.States.{freshTop, freshLayout, freshCore, afresh};
 use rules::Beside;
 use rules::Core;
@@ -23,7 +24,7 @@ fn fresh_top(g: Measure) -> u32
 
 // Margins, motion and line termination afresh.
 fn fresh_layout(g: Measure) -> Layout
-    requires { ⌜ (g .wide ≤ 600) × (g .high ≤ 6800) ⌝ }
+    requires { ⌜ Bounded g ⌝ }
     ensures { λ r. ⌜ r ≡ freshLayout g ⌝ }
 {
     let right = width(g);
@@ -40,7 +41,7 @@ fn fresh_layout(g: Measure) -> Layout
 
 // The core afresh.
 pub fn fresh_core(g: Measure) -> Core
-    requires { ⌜ (g .wide ≤ 600) × (g .high ≤ 6800) ⌝ }
+    requires { ⌜ Bounded g ⌝ }
     ensures { λ r. ⌜ r ≡ freshCore g ⌝ }
 {
     let layout = fresh_layout(g);
@@ -66,7 +67,7 @@ pub fn fresh_core(g: Measure) -> Core
 
 // The state afresh.
 pub fn afresh(g: Measure) -> State
-    requires { ⌜ (g .wide ≤ 600) × (g .high ≤ 6800) ⌝ }
+    requires { ⌜ Bounded g ⌝ }
     ensures { λ r. ⌜ r ≡ afresh g ⌝ }
 {
     let core = fresh_core(g);

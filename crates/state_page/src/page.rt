@@ -2,7 +2,7 @@
 ghost use mathlib.Core.Path.{_≡_};
 ghost use Prim.Native.Nat.{_≤_, _<_};
 ghost use lib.Dec.{leb};
-ghost use Rattle.rules.specs.Measure.{allowed, measureOf, LW, LH, intoWidth, intoHeight};
+ghost use Rattle.rules.specs.Measure.{Bounded, allowed, measureOf, LW, LH, intoWidth, intoHeight};
 ghost use Rattle.rules.specs.States.{firstLineAt};
 use rules::Layout;
 use rules::Measure;
@@ -38,7 +38,7 @@ pub fn measure_of(w: usize, h: usize) -> Measure
 
 // LW, the page's width in units.
 pub fn width(g: Measure) -> u32
-    requires { ⌜ (g .wide ≤ 600) × (g .high ≤ 6800) ⌝ }
+    requires { ⌜ Bounded g ⌝ }
     ensures { λ r. ⌜ (r ≡ LW g) × (r ≤ 115200) ⌝ }
 {
     (24 * (8 * g.wide)) as u32
@@ -46,7 +46,7 @@ pub fn width(g: Measure) -> u32
 
 // LH, the page's height in units.
 pub fn height(g: Measure) -> u32
-    requires { ⌜ (g .wide ≤ 600) × (g .high ≤ 6800) ⌝ }
+    requires { ⌜ Bounded g ⌝ }
     ensures { λ r. ⌜ (r ≡ LH g) × (r ≤ 163200) ⌝ }
 {
     (24 * g.high) as u32
@@ -54,7 +54,7 @@ pub fn height(g: Measure) -> u32
 
 // Whether a place lies in the page's width.
 pub fn in_width(g: Measure, n: u64) -> bool
-    requires { ⌜ (g .wide ≤ 600) × (g .high ≤ 6800) ⌝ }
+    requires { ⌜ Bounded g ⌝ }
     ensures { λ r. ⌜ r ≡ leb n (LW g) ⌝ }
 {
     n <= width(g) as u64
@@ -62,7 +62,7 @@ pub fn in_width(g: Measure, n: u64) -> bool
 
 // Whether a place lies in the page's height.
 pub fn in_height(g: Measure, n: u64) -> bool
-    requires { ⌜ (g .wide ≤ 600) × (g .high ≤ 6800) ⌝ }
+    requires { ⌜ Bounded g ⌝ }
     ensures { λ r. ⌜ r ≡ leb n (LH g) ⌝ }
 {
     n <= height(g) as u64
@@ -70,7 +70,7 @@ pub fn in_height(g: Measure, n: u64) -> bool
 
 // A place across the page, brought into its width.
 pub fn into_width(g: Measure, n: u64) -> u32
-    requires { ⌜ (g .wide ≤ 600) × (g .high ≤ 6800) ⌝ }
+    requires { ⌜ Bounded g ⌝ }
     ensures { λ r. ⌜ r ≡ intoWidth g n ⌝ }
 {
     let widest = width(g);
@@ -79,7 +79,7 @@ pub fn into_width(g: Measure, n: u64) -> u32
 
 // A place down the page, brought into its height.
 pub fn into_height(g: Measure, n: u64) -> u32
-    requires { ⌜ (g .wide ≤ 600) × (g .high ≤ 6800) ⌝ }
+    requires { ⌜ Bounded g ⌝ }
     ensures { λ r. ⌜ r ≡ intoHeight g n ⌝ }
 {
     let highest = height(g);

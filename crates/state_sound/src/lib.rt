@@ -5,6 +5,7 @@ ghost use Prim.Native.Nat.{_≤_};
 ghost use lib.Dec.{eqb};
 ghost use lib.ListN.{take, drop};
 ghost use Rattle.common.specs.Choice.{within};
+ghost use Rattle.rules.specs.Measure.{Bounded};
 ghost use Rattle.rules.specs.Sound.{inPage, allInPage, allFree, stackSound, layoutSound, rasterSound, allZero, sequenceSound, coreSound, sound};
 use rules::Core;
 use rules::Layout;
@@ -26,7 +27,7 @@ fn both(a: bool, b: bool) -> bool
 
 // Whether a place lies in the page.
 fn in_page(g: Measure, p: Spot) -> bool
-    requires { ⌜ (g .wide ≤ 600) × (g .high ≤ 6800) ⌝ }
+    requires { ⌜ Bounded g ⌝ }
     ensures { λ r. ⌜ r ≡ inPage g p ⌝ }
 {
     both(in_width(g, p.x as u64), in_height(g, p.y as u64))
@@ -41,7 +42,7 @@ fn is_free(p: Spot) -> bool
 
 // Whether the places on the stack lie in the page.
 fn stack_in_page(g: Measure, depth: usize, stack: [Spot; 20]) -> bool
-    requires { ⌜ (g .wide ≤ 600) × (g .high ≤ 6800) × (depth ≤ 20) ⌝ }
+    requires { ⌜ Bounded g × (depth ≤ 20) ⌝ }
     ensures { λ r. ⌜ r ≡ allInPage g (take depth stack) ⌝ }
 {
     let mut i = 0;
@@ -74,7 +75,7 @@ fn stack_free(depth: usize, stack: [Spot; 20]) -> bool
 
 // Whether depth and stack are sound.
 fn stack_sound(g: Measure, depth: usize, stack: [Spot; 20]) -> bool
-    requires { ⌜ (g .wide ≤ 600) × (g .high ≤ 6800) ⌝ }
+    requires { ⌜ Bounded g ⌝ }
     ensures { λ r. ⌜ r ≡ stackSound g depth stack ⌝ }
 {
     if 20 < depth {
@@ -89,7 +90,7 @@ fn stack_sound(g: Measure, depth: usize, stack: [Spot; 20]) -> bool
 
 // Whether margins, motion and line termination are sound.
 fn layout_sound(g: Measure, l: Layout) -> bool
-    requires { ⌜ (g .wide ≤ 600) × (g .high ≤ 6800) ⌝ }
+    requires { ⌜ Bounded g ⌝ }
     ensures { λ r. ⌜ r ≡ layoutSound g l ⌝ }
 {
     let across = both(l.left < l.right, in_width(g, l.right as u64));
@@ -101,7 +102,7 @@ fn layout_sound(g: Measure, l: Layout) -> bool
 
 // Whether resolution and graphics margin are sound.
 fn raster_sound(g: Measure, r: Raster) -> bool
-    requires { ⌜ (g .wide ≤ 600) × (g .high ≤ 6800) ⌝ }
+    requires { ⌜ Bounded g ⌝ }
     ensures { λ q. ⌜ q ≡ rasterSound g r ⌝ }
 {
     both(
@@ -153,7 +154,7 @@ fn sequence_sound(q: Sequence) -> bool
 
 // Whether the core is sound.
 fn core_sound(g: Measure, c: Core) -> bool
-    requires { ⌜ (g .wide ≤ 600) × (g .high ≤ 6800) ⌝ }
+    requires { ⌜ Bounded g ⌝ }
     ensures { λ r. ⌜ r ≡ coreSound g c ⌝ }
 {
     let at = c.at;
@@ -168,7 +169,7 @@ fn core_sound(g: Measure, c: Core) -> bool
 
 // Whether the state is sound.
 pub fn sound(g: Measure, t: State) -> bool
-    requires { ⌜ (g .wide ≤ 600) × (g .high ≤ 6800) ⌝ }
+    requires { ⌜ Bounded g ⌝ }
     ensures { λ r. ⌜ r ≡ sound g t ⌝ }
 {
     let core = t.core;

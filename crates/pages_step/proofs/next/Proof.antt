@@ -13,8 +13,8 @@ write-lines-requires c κs = search needs
 is-drawn-requires : tie.Need-is-drawn-requires
 is-drawn-requires c κs = search needs
 
-one-if-requires : tie.Need-one-if-requires
-one-if-requires c κs = search needs
+flag-requires : tie.Need-flag-requires
+flag-requires c κs = search needs
 
 add-next-number : tie.Need-add-next-number
 add-next-number c = search needs
@@ -41,7 +41,7 @@ next-spec =
     run-requires
     write-lines-requires
     is-drawn-requires
-    one-if-requires
+    flag-requires
     add-next-number
     count-of-requires
     add-all-findings

@@ -52,13 +52,13 @@ write-ran-requires c κs =
     let call = c .before .before .before .before .before .before .before in
     (omega (arith, call .run .kept .0, call .before .before .before .loop .inv .0 .going .sized), call .run .ensures .1)
 
-one-if-requires : tie.Need-one-if-requires Inv-loop μ-loop
-one-if-requires c κs = search needs
+flag-requires : tie.Need-flag-requires Inv-loop μ-loop
+flag-requires c κs = search needs
 
 add-number : tie.Need-add-number Inv-loop μ-loop
 add-number c =
     let call = c .before .before .before .before .before .before .before .before .before .before .before in
-    omega (arith, call .before .before .before .loop .inv .0 .going .pages, call .before .before .before .before .before .before .before .before .pre .0, c .one-if .ensures .1)
+    omega (arith, call .before .before .before .loop .inv .0 .going .pages, call .before .before .before .before .before .before .before .before .pre .0, c .flag .ensures .1)
 
 count-of-requires : tie.Need-count-of-requires Inv-loop μ-loop
 count-of-requires c κs = search needs
@@ -77,7 +77,7 @@ loop-again : tie.Need-loop-again Inv-loop μ-loop
 loop-again c =
     let call = c .before .before .before .before .before .before .before .before .before .before .before .before in (
       reporting-again 640 800 page-allowed (call .before .before .before .loop .inv .0) (call .before .before .before .before .before .before .before .before .pre .0) 131072 (call .run .ensures .0)
-          (c .before .before .before .before .before .before .before .if1 .left) (call .run .kept .0) (c .before .one-if .ensures .0) (c .count-of .ensures .0) (c .before .before .before .before .write-ran .ensures),
+          (c .before .before .before .before .before .before .before .if1 .left) (call .run .kept .0) (c .before .flag .ensures .0) (c .count-of .ensures .0) (c .before .before .before .before .write-ran .ensures),
       call .run .ensures .1,
     )
 
@@ -95,7 +95,7 @@ write-stream-spec =
     same-length-2
     returns
     write-ran-requires
-    one-if-requires
+    flag-requires
     add-number
     count-of-requires
     add-findings

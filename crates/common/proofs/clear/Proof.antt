@@ -1,15 +1,15 @@
--- `dot_page::clear` meets its contract: after i turns the first i bytes are zero. Assumes nothing.
+-- `common::clear` meets its contract: after i turns the first i bytes are zero. Assumes nothing.
 use Prim.Native.Nat.{_-_}
 use borrow.Author.Needs.{needs}
-use Rattle.dot_page.proofs.Bytes.{Clearing, clearing-starts, clearing-again, clearing-ends}
-use Rattle.dot_page.proofs.clear.Statement.{statement}
-use Rattle.dot_page.proofs.clear.Tie as tie
+use Rattle.common.proofs.Clearing.{Clearing, clearing-starts, clearing-again, clearing-ends}
+use Rattle.common.proofs.clear.Statement.{statement}
+use Rattle.common.proofs.clear.Tie as tie
 
 abbrev Inv-loop : tie.InvT-loop
-Inv-loop page₀ n e i₀ page i = Clearing page₀ n e page i
+Inv-loop bytes₀ n e i₀ bytes i = Clearing bytes₀ n e bytes i
 
 abbrev μ-loop : tie.MeasureT-loop
-μ-loop page₀ n e i₀ page i = e - i
+μ-loop bytes₀ n e i₀ bytes i = e - i
 
 least-requires : tie.Need-least-requires Inv-loop μ-loop
 least-requires c κs = search needs
@@ -17,8 +17,8 @@ least-requires c κs = search needs
 loop-holds : tie.Need-loop-holds Inv-loop μ-loop
 loop-holds c = search (clearing-starts, needs)
 
-slice-write-page : tie.Need-slice-write-page Inv-loop μ-loop
-slice-write-page c = search needs
+slice-write-bytes : tie.Need-slice-write-bytes Inv-loop μ-loop
+slice-write-bytes c = search needs
 
 add-i : tie.Need-add-i Inv-loop μ-loop
 add-i c = search needs
@@ -43,7 +43,7 @@ clear-spec =
     μ-loop
     least-requires
     loop-holds
-    slice-write-page
+    slice-write-bytes
     add-i
     loop-less
     loop-again
