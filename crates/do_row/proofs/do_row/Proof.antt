@@ -24,7 +24,7 @@ begin-seed-requires : tie.Need-begin-seed-requires
 begin-seed-requires c κs = search needs
 
 decode-requires : tie.Need-decode-requires
-decode-requires c κs = kept-long (c .before .before .before .before .before .before .before .before .before .before .before .args .p .raster .started) (c .before .before .before .before .before .before .before .before .before .before .before .args .seed .now) _ (c .before .before .before .before .before .before .before .before .before .before .before .pre .3) (c .before .begin-seed .ensures)
+decode-requires c κs = kept-long (c .before .before .before .before .before .before .before .before .before .before .before .args .p .raster .started) (c .before .before .before .before .before .before .before .before .before .before .before .args .seed .now) _ (c .before .before .before .before .before .before .before .before .before .before .before .pre .2) (c .before .begin-seed .ensures)
 
 paint-row-requires : tie.Need-paint-row-requires
 paint-row-requires c κs = search needs
@@ -39,7 +39,7 @@ same-length : tie.Need-same-length
 same-length c = search needs
 
 returns-2 : tie.Need-returns-2
-returns-2 c = row-deed _ _ _ _ _ _ _ _ _ _ _ _ _ _ _ _ (c .before .before .before .before .before .before .before .before .before .before .before .before .before .before .before .before .before .before .before .before .pre .0) (c .before .before .before .before .before .before .before .before .before .before .before .before .before .before .before .before .before .before .before .before .pre .2) (c .before .before .before .before .before .before .before .before .before .before .before .before .before .before .before .before .before .before .before .before .pre .3) (c .before .before .before .before .before .before .before .before .before .before .before .before .before .before .before .before .before .whole-negative .ensures) (c .before .before .before .before .before .before .before .before .before .before .before .before .before .before .before .before .if1 .left) (c .before .before .before .before .before .before .before .before .before .before .before .before .before .begun-raster .ensures) (c .before .before .before .before .before .before .before .before .before .before .before .before .row-at .ensures) (c .before .before .before .before .before .before .before .before .before .before .begin-seed .ensures) (c .before .before .before .before .before .before .before .before .decode .ensures) (c .before .before .before .before .paint-row .ensures) (c .before .row-finding .ensures) (c .kept2 .ensures)
+returns-2 c = row-deed _ _ _ _ _ _ _ _ _ _ _ _ _ _ _ _ (c .before .before .before .before .before .before .before .before .before .before .before .before .before .before .before .before .before .before .before .before .pre .0 .0) (c .before .before .before .before .before .before .before .before .before .before .before .before .before .before .before .before .before .before .before .before .pre .1) (c .before .before .before .before .before .before .before .before .before .before .before .before .before .before .before .before .before .before .before .before .pre .2) (c .before .before .before .before .before .before .before .before .before .before .before .before .before .before .before .before .before .whole-negative .ensures) (c .before .before .before .before .before .before .before .before .before .before .before .before .before .before .before .before .if1 .left) (c .before .before .before .before .before .before .before .before .before .before .before .before .before .begun-raster .ensures) (c .before .before .before .before .before .before .before .before .before .before .before .before .row-at .ensures) (c .before .before .before .before .before .before .before .before .before .before .begin-seed .ensures) (c .before .before .before .before .before .before .before .before .decode .ensures) (c .before .before .before .before .paint-row .ensures) (c .before .row-finding .ensures) (c .kept2 .ensures)
 
 pub do-row-spec : {M : Type 1} → statement M
 do-row-spec =
