@@ -21,9 +21,9 @@ In prose and in indented blocks every path that begins with a folder of the proj
 heading that stands in quotes behind the document it is of. A landing note (docs/landings) tells what a landing moved, and names in it may be
 gone since: of its spans only the paths and the edits are held.
 
-docs/CONTRACTS.md: in the table of functions the row's crate has each function as a public one, every public function has a row, every public
-function with a `requires` is under 'functions that ask something', every theorem has a row, each edit in brackets is one of the row's crate
-(of tests/edits, for a theorem), and every edit is in some row.
+docs/CONTRACTS.md: in the table of functions the row's crate has each function as a public one and sees what its promise names; every public
+function has a row, and one with a `requires` is under 'functions that ask something'; every theorem has a row; each edit in brackets is one of
+the row's crate (of tests/edits, for a theorem), and every edit is in some row.
 docs/DECISIONS.md: each section, and each entry of another landing than its section's, has a date.
 Counts: those in COUNTED are the sources'; the cases of ./test in README.md and docs/ASSESSMENT.md are those of the script, and those by hand
 are the same in both; README.md has the numbers of findings and refusals, and the files of the rules.
@@ -31,7 +31,7 @@ are the same in both; README.md has the numbers of findings and refusals, and th
 A line for each fault, then the counts of what was looked up; exit status 1 on any fault, or where fewer were looked up than LEAST says.
 """
 import collections
-import glob
+import functools
 import os
 import re
 import sys
@@ -40,7 +40,8 @@ import map as atlas  # tests/map.py
 import trace  # tests/trace.py
 from trace import ROOT, found, text
 
-LEAST = {"function": 90, "edit": 215, "path": 270, "word": 12, "definition": 150, "crate": 10, "name": 800, "link": 80, "heading": 6, "row": 90}
+LEAST = {"function": 75, "edit": 200, "path": 200, "word": 12, "definition": 130, "crate": 7, "name": 850, "link": 140, "heading": 5, "row": 95,
+         "asking": 40, "count": 18, "date": 12}
 ENDINGS = ".antt .c .edit .h .html .lock .md .pbm .pcl .png .py .rs .rt .sh .toml .tsv .txt .xz".split()
 ANY = ("NAME", "CRATE", "FILE")
 FORMS = {"crate", "crate::name", "rovinuset::name", "file::name", "File: name"}  # what the documents call the forms of names themselves
@@ -73,14 +74,17 @@ def files():
 FILES = set(files())
 TOPS = {path.split(os.sep)[0] for path in FILES}
 CRATES = {path.split(os.sep)[1] for path in found("crates/*/src")}
+USES = {crate: deps for _, crates in atlas.blocks() for crate, deps in crates.items()}
 MEANT, DECLARED = trace.meant(), trace.declared()
 KINDS = trace.tests()
 
 
+@functools.lru_cache(None)
 def sources(crate):
     return "".join(text(path) for path in found("crates/%s/src/**/*.rt" % crate))
 
 
+@functools.lru_cache(None)
 def public(crate):
     """The public functions of a crate."""
     return set(re.findall(r'^pub (?:extern "C" )?fn (\w+)', sources(crate), re.M))
@@ -97,6 +101,7 @@ def of_source(source):
     return names | set(re.findall(r"^\s+(?:pub )?(\w+): ", source, re.M)) | set(re.findall(r"^    (\w+)(?:,|\(| \{)", source, re.M))
 
 
+@functools.lru_cache(None)
 def of_crate(crate):
     """All that a crate declares, in its sources, its definitions and its laws."""
     stated = found("crates/%s/specs/*.antt" % crate) + found("crates/%s/proofs/*.antt" % crate)
@@ -239,7 +244,7 @@ def wrong_pairs(line, document):
     for kind, place, names in pairs(line):
         looked["definition" if kind == "within" else kind] += len(names)
         if kind == "definition":
-            yield from wrong_citation(place, names, document)
+            yield from wrong_citation(place, [name for name in names if re.fullmatch(r"[\w′-]+", name)], document)
         elif kind == "crate":
             yield from ("crates/%s has no %s" % (place, name) for name in names if re.fullmatch(r"[\w-]+", name) and name not in of_crate(place))
         elif place not in CRATES:
@@ -260,8 +265,9 @@ def in_words(line, document):
             yield "the link %s goes nowhere" % "".join(goal)
     for name, heading in re.findall(r"(?:docs/)?\b([A-Z]{4,})(?:\.md)?`?, ['\"]([^'\"]+)['\"]", line):
         looked["heading"] += 1
-        if not re.search(r"^#+ .*%s" % re.escape(heading), text("docs", name + ".md"), re.M):
-            yield "docs/%s.md has no heading '%s'" % (name, heading)
+        paper = "README.md" if name == "README" else "docs/%s.md" % name
+        if not re.search(r"^#+ .*%s" % re.escape(heading), text(paper), re.M):
+            yield "%s has no heading '%s'" % (paper, heading)
 
 
 def paragraphs(path):
@@ -321,6 +327,15 @@ def bracketed(cell):
             yield from SPAN.findall(inside.split(":")[0])
 
 
+@functools.lru_cache(None)
+def seen_from(crate):
+    """All that is declared in a crate and in those that it uses, however far below."""
+    crates, open_ = {crate}, [crate]
+    while open_:
+        open_ += [dep for dep in USES[open_.pop()] if dep in USES and dep not in crates and not crates.add(dep)]
+    return set().union(*map(of_crate, crates))
+
+
 def wrong_functions(rows):
     """The table of functions: what its rows name, and what no row names."""
     listed, edits = {}, set()
@@ -332,6 +347,8 @@ def wrong_functions(rows):
         looked["row"] += 1
         listed.setdefault(crate, []).extend(names)
         yield from ("%s has no public function %s" % (crate, name) for name in names if name not in public(crate))
+        promised = {name for name in SPAN.findall(cells[2]) if kind_of(name) == "name"} - CRATES
+        yield from ("%s sees nothing called %s" % (crate, name) for name in sorted(promised - seen_from(crate)))
         for label in bracketed(cells[3]):
             looked["edit"] += 1
             pair = label.split("/") if "/" in label else [crate, label]
@@ -387,6 +404,7 @@ COUNTED = [  # what the documents say, and how many there are
     (r"paper's examples 1 to (\d+)", lambda: len(re.findall(r"^ +-- \d+\. ", text("crates/examples/specs/Table.antt"), re.M))),
     (r"\b(\w+) calls\b(?: \(|:)", lambda: len(atlas.calls())),
     (r"library of (\w+) functions", lambda: len(atlas.calls())),
+    (r"on (\w+) page measures", lambda: len(re.findall(r'"[\d ]+"', re.search(r"^MEASURES = .*$", text("tests/pages.py"), re.M).group()))),
 ]
 WORDS = "no one two three four five six seven eight nine ten eleven twelve".split()
 
