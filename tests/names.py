@@ -26,7 +26,7 @@ function has a row, and one with a `requires` is under 'functions that ask somet
 the row's crate (of tests/edits, for a theorem), and every edit is in some row.
 docs/DECISIONS.md: each section, and each entry of another landing than its section's, has a date.
 Counts: those in COUNTED are the sources'; the cases of ./test in README.md and docs/ASSESSMENT.md are those of the script, and those by hand
-are the same in both; README.md has the numbers of findings and refusals, and the files of the rules.
+are the same in both; README.md has the numbers of findings and refusals, and the files of the rules; docs/SPEED.md has the tables of bench/run.
 
 A line for each fault, then the counts of what was looked up; exit status 1 on any fault, or where fewer were looked up than LEAST says.
 """
@@ -40,7 +40,7 @@ import map as atlas  # tests/map.py
 import trace  # tests/trace.py
 from trace import ROOT, found, text
 
-LEAST = {"function": 75, "edit": 200, "path": 200, "word": 12, "definition": 130, "crate": 7, "name": 850, "link": 140, "heading": 5, "row": 95,
+LEAST = {"function": 75, "edit": 200, "path": 200, "word": 12, "definition": 130, "crate": 5, "name": 850, "link": 140, "heading": 5, "row": 95,
          "asking": 40, "count": 18, "date": 12}
 ENDINGS = ".antt .c .edit .h .html .lock .md .pbm .pcl .png .py .rs .rt .sh .toml .tsv .txt .xz".split()
 ANY = ("NAME", "CRATE", "FILE")
@@ -165,7 +165,7 @@ def looks_like_path(word):
                                                       or os.path.splitext(word)[1] in ENDINGS)
 
 
-def wrong_citation(head, names, document):
+def wrong_citation(head, names):
     """`File: names` or `kind: names`."""
     if head in KINDS:
         return ["no %s %s" % (head, name) for name in names if not KINDS[head](name) and name not in ("n", "name", "file::name", "crate/name")]
@@ -205,7 +205,7 @@ def wrong_span(span, document):
         return kind, ["no word of the script: %s" % span]
     if kind == "definition":
         head, _, names = span.partition(": ")
-        wrong = [] if span in FORMS else wrong_citation(head, names.split(", "), document)
+        wrong = [] if span in FORMS else wrong_citation(head, names.split(", "))
         return (kind if head in DECLARED or head in KINDS or wrong else "other"), wrong
     if kind == "name" and span not in NAMES:
         return kind, ["nothing is called %s" % span]
@@ -232,25 +232,23 @@ def pairs(line):
     for crate, spans in re.findall(r"`(\w+)`: " + SPANS, line):
         if crate in CRATES:
             yield "crate", crate, SPAN.findall(spans)
-    for name, crate in re.findall(r"\(`([\w-]+)`, (\w+)\)", line) + re.findall(r"\(`([\w-]+)`, `(\w+)`\)", line):
-        if crate in CRATES or not crate.startswith(tuple("0123456789")) and "`%s`" % crate not in line:
-            yield "within", crate, [name]
-    for crate, name in re.findall(r"\(`(\w+)`, `([\w-]+)`\)", line):
-        if crate in CRATES and name not in CRATES:
-            yield "within", crate, [name]
+    for name, crate in re.findall(r"\(`([\w-]+)`, ([a-z_]+)\)", line):
+        yield "within", crate, [name]
+    for first, second in re.findall(r"\(`([\w-]+)`, `([\w-]+)`\)", line):
+        if (first in CRATES) != (second in CRATES):
+            yield "within", first if first in CRATES else second, [second if first in CRATES else first]
 
 
-def wrong_pairs(line, document):
-    for kind, place, names in pairs(line):
+def wrong_pairs(line):
+    for kind, place, spans in pairs(line):
+        names = [name for name in spans if re.fullmatch(r"[\w′-]+", name)]
         looked["definition" if kind == "within" else kind] += len(names)
         if kind == "definition":
-            yield from wrong_citation(place, [name for name in names if re.fullmatch(r"[\w′-]+", name)], document)
-        elif kind == "crate":
-            yield from ("crates/%s has no %s" % (place, name) for name in names if re.fullmatch(r"[\w-]+", name) and name not in of_crate(place))
+            yield from wrong_citation(place, names)
         elif place not in CRATES:
             yield "no crate %s, which is to have %s" % (place, names[0])
-        elif names[0] in CRATES or names[0] in NAMES:
-            yield from ("crates/%s has no %s" % (place, name) for name in names if name not in of_crate(place) and name not in CRATES)
+        else:
+            yield from ("crates/%s has no %s" % (place, name) for name in names if name not in of_crate(place))
 
 
 def in_words(line, document):
@@ -299,7 +297,7 @@ def document(path):
                 wrong += what
         faults.extend("%s:%d: %s" % (path, number, what) for what in wrong)
     for number, part in [] if past or path in (TRACE, atlas.MAP) else paragraphs(path):
-        faults.extend("%s:%d: %s" % (path, number, what) for what in wrong_pairs(part, path))
+        faults.extend("%s:%d: %s" % (path, number, what) for what in wrong_pairs(part))
 
 
 # ---- docs/CONTRACTS.md
@@ -382,12 +380,23 @@ def wrong_theorems(rows):
 def wrong_contracts():
     yield from wrong_theorems(table(under(CONTRACTS, "## Theorems on the rules")))
     yield from wrong_functions(table(under(CONTRACTS, "## Functions").partition("\n### ")[0]))
-    told = SPAN.findall(under(CONTRACTS, "### Exceptions: functions that ask something"))
+    yield from wrong_asking(under(CONTRACTS, "### Exceptions: functions that ask something"))
+
+
+def wrong_asking(part):
+    """The functions that ask something, `crate::name` or `crate` before a colon, and those that are said to ask nothing at all."""
+    told = {name for spans in re.findall(SPANS + ":", part) for name in SPAN.findall(spans)}
+    free = {name for sentence in re.findall(r"([^.]*) ask nothing at all\.", part) for name in SPAN.findall(sentence)}
+    there = {crate: asking(crate) for crate in CRATES}
+    asked = set(there) - {crate for crate in there if not there[crate]} | {"%s::%s" % (crate, name) for crate in there for name in there[crate]}
     for crate in sorted(CRATES):
-        names = asking(crate)
-        looked["asking"] += len(names)
-        yield from ("%s::%s asks something and is not among the exceptions" % (crate, name) for name in sorted(names)
+        looked["asking"] += len(there[crate])
+        yield from ("%s::%s asks something and is not among the exceptions" % (crate, name) for name in sorted(there[crate])
                     if crate not in told and "%s::%s" % (crate, name) not in told)
+    yield from ("%s is among those that ask something and asks nothing" % name for name in sorted(told - asked))
+    yield from ("%s is said to ask nothing, and asks" % name for name in sorted(free & asked))
+    if not free:
+        yield "names.py finds none that asks nothing at all: it reads the document wrongly"
 
 
 # ---- counts and dates
@@ -442,7 +451,7 @@ def wrong_cases():
 
 
 def wrong_lists():
-    """README.md: the numbers and the files of the rules. docs/DECISIONS.md: the dates."""
+    """README.md: the numbers and the files of the rules. docs/SPEED.md: the tables that are printed. docs/DECISIONS.md: the dates."""
     numbers = {number for cells in table(under("README.md", "## What the numbers mean")) for number in (cells[0], cells[2]) if number}
     there = {str(int(number)) for number in re.findall(r"^(?:finding|refusal)Number \w+ = (\d+)$", text("crates/rules/specs/Findings.antt"), re.M)} - {"0"}
     if numbers != there:
@@ -451,6 +460,9 @@ def wrong_lists():
     names = {os.path.basename(path)[:-5] for path in found("crates/rules/specs/*.antt")} - {"Lib"}
     if not listed or set(listed.group(1).split(", ")) != names:
         yield "README.md: the files of the rules are not those of crates/rules/specs"
+    printed = re.findall(r'^ *table "([^"]+)"', text("bench/run"), re.M)
+    if not printed or [heading for heading in re.findall(r"^## (.*)$", text("docs/SPEED.md"), re.M) if heading in printed] != printed:
+        yield "docs/SPEED.md has not the tables of bench/run under their headings, in its order"
     for heading in re.findall(r"^## (.*)$", text("docs/DECISIONS.md"), re.M):
         looked["date"] += 1
         if not re.search(r" \(landings? of \d{4}-\d\d-\d\d(?: and \d{4}-\d\d-\d\d)?\)$", heading):

@@ -45,7 +45,7 @@ def declared_in(path):
     """The names that a file of specs/ declares: signatures, records, fields, data types and their constructors."""
     words = set(re.findall(r"^\s*(?:unfoldable |abbrev |pub )*(?:record |data )?([^\s:(]+)[^\n:]*:", text(path), re.M))
     words |= {word for line in re.findall(r"^  ([^\n:=]+) :", text(path), re.M) for word in line.split()}
-    return words - {"--"}
+    return words - {"--", "pub"}
 
 
 def meant():
