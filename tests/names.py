@@ -11,8 +11,9 @@ path        its first word has a `/` and begins with a folder of the project, or
             made by a command is no file of the project: target/, *.a, and what README.md has made by `-o`.
 word        `./rovinuset word`: a word of the script.
 definition  `File: name, name`, or File: `name`, `name` with the file outside of the span: declared in the file that trace.py means by File.
-            A kind of test in the place of File is cited as in docs/TRACE.md. (`name`, crate) and (`crate`, `name`) are looked up in the crate.
-crate       `crate`: `name`, `name`: each a function or a type of crates/crate/src.
+            A kind of test in the place of File is cited as in docs/TRACE.md. In (`name`, crate), (`crate`, `name`), `name` of `crate` and the
+            rules' `name` it is looked up in the crate.
+crate       `crate`: `name`, `name`: each a function, a type or a definition of the crate.
 name        one word: a crate, a family, a function, a type, a member, a definition, a law, an edit, a number of include/rovinuset.h, or a word
             that the programs print; or one of OTHERS, which says whose it is.
 other       all else: PCL, commands of the shell, values, pieces of code. Nothing is looked up.
@@ -24,7 +25,7 @@ gone since: of its spans only the paths and the edits are held.
 docs/CONTRACTS.md: in the table of functions the row's crate has each function as a public one and sees what its promise names; every public
 function has a row, and one with a `requires` is under 'functions that ask something'; every theorem has a row; each edit in brackets is one of
 the row's crate (of tests/edits, for a theorem), and every edit is in some row.
-docs/DECISIONS.md: each section, and each entry of another landing than its section's, has a date.
+docs/DECISIONS.md: each section has the date of its landing.
 Counts: those in COUNTED are the sources'; the cases of ./test in README.md and docs/ASSESSMENT.md are those of the script, and those by hand
 are the same in both; README.md has the numbers of findings and refusals, and the files of the rules; docs/SPEED.md has the tables of bench/run.
 
@@ -44,16 +45,16 @@ LEAST = {"function": 75, "edit": 200, "path": 200, "word": 12, "definition": 130
          "asking": 40, "count": 18, "date": 12}
 ENDINGS = ".antt .c .edit .h .html .lock .md .pbm .pcl .png .py .rs .rt .sh .toml .tsv .txt .xz".split()
 ANY = ("NAME", "CRATE", "FILE")
-FORMS = {"crate", "crate::name", "rovinuset::name", "file::name", "File: name"}  # what the documents call the forms of names themselves
+FORMS = {"crate::name", "rovinuset::name", "file::name", "File: name"}  # what the documents call the forms of names themselves
 OTHERS = {
     "C": "memcpy memset size_t uint32_t write SIZE_MAX",
     "Rust": "unsafe x86_64-unknown-linux-gnu",
     "the kit": "rt cond const write_all io::write_all",
-    "PCL": "ESC HMI VMI L R T X",
-    "trace.py": " ".join(trace.FUNCTION_WORDS | trace.TEST_WORDS) + " types form File",
-    "the table of tests/vectors/manuals": "checks seed dots pages plain",
+    "PCL": "ESC L R T",
+    "trace.py": "types form",
+    "the table of tests/vectors/manuals": "checks",
 }
-OTHERS = {word for words in OTHERS.values() for word in words.split()}
+OTHERS = {word for words in OTHERS.values() for word in words.split()} | trace.FUNCTION_WORDS | trace.TEST_WORDS
 TRACE = "docs/TRACE.md"
 SPAN = re.compile(r"`([^`\n]+)`")
 SKIPPED = {"target", ".git", "__pycache__"}
@@ -148,7 +149,7 @@ def made(path):
 
 
 def is_path(path, document):
-    """Whether there is a file or folder of this path, or that ends so; words in capitals stand for any name."""
+    """Whether there is a file or folder of this path, or that ends so; the words of ANY stand for any name."""
     path = os.path.normpath(path)
     here = os.path.normpath(os.path.join(os.path.dirname(document), path))
     pattern = re.compile(r"\b(?:%s)\b" % "|".join(ANY)).sub("[^/]+", re.escape(path)) + r"\Z"
@@ -328,10 +329,7 @@ def bracketed(cell):
 @functools.lru_cache(None)
 def seen_from(crate):
     """All that is declared in a crate and in those that it uses, however far below."""
-    crates, open_ = {crate}, [crate]
-    while open_:
-        open_ += [dep for dep in USES[open_.pop()] if dep in USES and dep not in crates and not crates.add(dep)]
-    return set().union(*map(of_crate, crates))
+    return of_crate(crate).union(*(seen_from(dep) for dep in USES.get(crate, ()) if dep in CRATES))
 
 
 def wrong_functions(rows):
@@ -388,7 +386,7 @@ def wrong_asking(part):
     told = {name for spans in re.findall(SPANS + ":", part) for name in SPAN.findall(spans)}
     free = {name for sentence in re.findall(r"([^.]*) ask nothing at all\.", part) for name in SPAN.findall(sentence)}
     there = {crate: asking(crate) for crate in CRATES}
-    asked = set(there) - {crate for crate in there if not there[crate]} | {"%s::%s" % (crate, name) for crate in there for name in there[crate]}
+    asked = {crate for crate in there if there[crate]} | {"%s::%s" % (crate, name) for crate in there for name in there[crate]}
     for crate in sorted(CRATES):
         looked["asking"] += len(there[crate])
         yield from ("%s::%s asks something and is not among the exceptions" % (crate, name) for name in sorted(there[crate])
