@@ -18,9 +18,9 @@ name        one word: a crate, a family, a function, a type, a member, a definit
             that the programs print; or one of OTHERS, which says whose it is.
 other       all else: PCL, commands of the shell, values, pieces of code. Nothing is looked up.
 
-In prose and in indented blocks every path that begins with a folder of the project is looked up likewise; so is every link, and every
-heading that stands in quotes behind the document it is of. A landing note (docs/landings) tells what a landing moved, and names in it may be
-gone since: of its spans only the paths and the edits are held.
+In prose and in indented blocks every path that begins with a folder of the project is looked up likewise; so is every link, every heading
+that stands in quotes behind the document it is of, and what a change to be tried replaces: in `file` write `new` for `old`.
+A landing note (docs/landings) tells what a landing moved, and names in it may be gone since: of its spans only the paths and the edits are held.
 
 docs/CONTRACTS.md: in the table of functions the row's crate has each function as a public one and sees what its promise names; every public
 function has a row, and one with a `requires` is under 'functions that ask something'; every theorem has a row; each edit in brackets is one of
@@ -42,14 +42,14 @@ import trace  # tests/trace.py
 from trace import ROOT, found, text
 
 LEAST = {"function": 75, "edit": 200, "path": 200, "word": 12, "definition": 130, "crate": 5, "name": 850, "link": 140, "heading": 5, "row": 95,
-         "asking": 40, "count": 18, "date": 12}
+         "asking": 40, "count": 18, "date": 12, "change": 1}
 ENDINGS = ".antt .c .edit .h .html .lock .md .pbm .pcl .png .py .rs .rt .sh .toml .tsv .txt .xz".split()
 ANY = ("NAME", "CRATE", "FILE")
 FORMS = {"crate::name", "rovinuset::name", "file::name", "File: name"}  # what the documents call the forms of names themselves
 OTHERS = {
     "C": "memcpy memset size_t uint32_t write SIZE_MAX",
     "Rust": "unsafe x86_64-unknown-linux-gnu",
-    "the kit": "rt cond const write_all io::write_all",
+    "the kit": "rt cond const write_all io::write_all bool u8 u16 u32 u64 usize",
     "PCL": "ESC L R T",
     "trace.py": "types form",
     "the table of tests/vectors/manuals": "checks",
@@ -298,7 +298,10 @@ def document(path):
                 wrong += what
         faults.extend("%s:%d: %s" % (path, number, what) for what in wrong)
     for number, part in [] if past or path in (TRACE, atlas.MAP) else paragraphs(path):
-        faults.extend("%s:%d: %s" % (path, number, what) for what in wrong_pairs(part))
+        tried = re.findall(r"in `([^`]+)` write `[^`]+` for `([^`]+)`", part)
+        looked["change"] += len(tried)
+        lost = ["%s has no %s" % (file, old) for file, old in tried if old not in text(file)]
+        faults.extend("%s:%d: %s" % (path, number, what) for what in [*wrong_pairs(part), *lost])
 
 
 # ---- docs/CONTRACTS.md
