@@ -8,7 +8,8 @@ The families  An indented block. Lines between two borders are a layer, the top 
               crates.txt has the families lowest first, each under one line of comment, and no crate before one that it uses.
 The crates    Family, crate, sentence: every crate of crates.txt, in its order; there is a folder of crates/ for each and no other.
 Where is ..   What, definition, function, wrong version or test. A definition and a function are links, each to the file that must have
-              what it names: `File: name, name`, `crate::name`, or the file itself. The tests are cited as in docs/TRACE.md.
+              what it names: `File: name, name`, `crate::name`, or the file itself. A link `File.antt` or `crate/File.antt` goes to the file
+              that docs/TRACE.md means by it. The tests are cited as in docs/TRACE.md.
               A row that begins with a code span is of what the sources call so, and what they have of each kind in WANTED has its
               row; a note in brackets behind it is free. Every theorem is cited in some definition.
 
@@ -273,6 +274,8 @@ def wrong_places(table):
     labels, kinds = places(), trace.tests()
     for number, cells in table:
         yield from ("%s:%d: %s" % (MAP, number, what) for what in wrong_row(cells, labels, kinds))
+    files = {file + ".antt": path for file, path in trace.meant().items()}
+    yield from ("%s: the link %s does not go to %s" % (MAP, label, files[label]) for label in labels if labels[label] != files.get(label, labels[label]))
     used = {label for _, cells in table for cell in cells for _, label in LINK.findall(cell)}
     yield from ("%s: no row uses the link %s" % (MAP, label) for label in labels if label not in used)
 

@@ -3,8 +3,9 @@
 
 The columns behind the sentence, in each table:
 
-Definition  entries parted by `;`: `File: name, name`, or words. File is a file of crates/*/specs without its ending, or `types`, the
-            declared types of crates/rules; a name must be declared there.
+Definition  entries parted by `;`: `File: name, name`, or words. File is a file of specs/ without its ending: that of the rules where they
+            have one of this name, else of the theorems, else of the only crate that has one; `crate/File` is that of the crate; `types`
+            are the declared types of crates/rules. A name must be declared in just that file.
 Function    entries parted by `,`: `crate::name`, a function of crates/crate/src, or one of FUNCTION_WORDS.
 Test        entries parted by `;`: `kind: name, name`, or one of TEST_WORDS. The kinds and what a name is:
               example   a number of the table in crates/examples      theorem   a statement of crates/theorems
@@ -23,6 +24,7 @@ import sys
 
 ROOT = sys.argv[1] if len(sys.argv) > 1 else "."
 LEAST_ROWS = 300
+FIRST = ("rules", "theorems")
 FUNCTION_WORDS = {"later", "law", "no rule", "all public ones"}
 TEST_WORDS = {"later", "no rule", "by eye"}
 
@@ -42,14 +44,27 @@ def found(pattern):
 def declared_in(path):
     """The names that a file of specs/ declares: signatures, records, fields, data types and their constructors."""
     words = set(re.findall(r"^\s*(?:unfoldable |abbrev |pub )*(?:record |data )?([^\s:(]+)[^\n:]*:", text(path), re.M))
-    return words | {word for line in re.findall(r"^  ([^\n:=]+) :", text(path), re.M) for word in line.split()}
+    words |= {word for line in re.findall(r"^  ([^\n:=]+) :", text(path), re.M) for word in line.split()}
+    return words - {"--", "pub"}
+
+
+def meant():
+    """The file of specs/ that each citation means, as `crate/File` or as `File`: files of one name are never taken together."""
+    paths, crates = {}, {}
+    for path in found("crates/*/specs/*.antt"):
+        crate, file = path.split(os.sep)[1], os.path.basename(path)[:-5]
+        paths["%s/%s" % (crate, file)] = path
+        crates.setdefault(file, []).append(crate)
+    for file, having in crates.items():
+        first = [crate for crate in FIRST if crate in having] or having
+        if first[0] in FIRST or len(having) == 1:
+            paths[file] = paths["%s/%s" % (first[0], file)]
+    return paths
 
 
 def declared():
-    """The names that the files of specs/ declare, by file."""
-    names = {}
-    for path in found("crates/*/specs/*.antt"):
-        names.setdefault(os.path.basename(path)[:-5], set()).update(declared_in(path))
+    """The names that the files of specs/ declare, by citation of the file."""
+    names = {file: declared_in(path) for file, path in meant().items()}
     names["types"] = set(re.findall(r"\b(?:struct|enum) (\w+)", text("crates/rules/src/lib.rt")))
     return names
 
