@@ -9,10 +9,10 @@ ghost use Rattle.common.specs.Bits.{onesAll};
 ghost use Rattle.rules.specs.Measure.{allowed, measureOf, pageBytes};
 ghost use Rattle.rules.specs.Sound.{sound};
 ghost use Rattle.state_load.specs.Kept.{stateAt};
-ghost use Rattle.rules.specs.Findings.{verdictNumber};
 ghost use Rattle.door.specs.Answers.{MadeAfresh, keptAfter, flagged, Answered, ToldPlain};
 use number_finding::finding_number;
 use number_finding::refusal_number;
+use number_finding::verdict_number;
 use rules::Ran;
 use rules::Refusal;
 use rules::Verdict;
@@ -67,16 +67,6 @@ pub extern "C" fn rov_dots(w: usize, h: usize, page: &[u8]) -> usize
         return 0;
     }
     dot_page::count(&page[0..n])
-}
-
-// A verdict's number, 0 where the call was carried out.
-fn verdict_number(v: Verdict) -> u32
-    ensures { λ r. ⌜ r ≡ verdictNumber v ⌝ }
-{
-    match v {
-        Verdict::Carried => 0,
-        Verdict::Refused(why) => refusal_number(why),
-    }
 }
 
 // The state behind a run, written back where it was carried out.
