@@ -1,11 +1,12 @@
 -- What the functions for C answer: the rules' outcome, as numbers and bytes.
 use mathlib.Core.Path.{_≡_}
-use mathlib.Core.Bool.{Bool, true, cond, not}
+use mathlib.Core.Bool.{true, cond, not}
 use mathlib.Core.List.{List}
 use Prim.Native.Nat.{ℕ}
 use lib.Dec.{ltb}
 use lib.ListN.{length}
 use lib.Seq.{sets}
+use Rattle.common.specs.Choice.{flagged}
 use Rattle.rules.specs.declared.Refusal.the-variants.{PageMeasure, UnsoundState}
 use Rattle.rules.specs.declared.Verdict.{Verdict}
 use Rattle.rules.specs.declared.Verdict.the-variants.{Carried, Refused}
@@ -17,15 +18,15 @@ use Rattle.rules.specs.States.{afresh}
 use Rattle.rules.specs.Run.{answer}
 use Rattle.rules.specs.Plain.{translate}
 use Rattle.theorems.specs.Statements.{Demand3}
-use Rattle.state_load.specs.Kept.{stateAt, stateBytes}
+use Rattle.state_load.specs.Kept.{stateTakes, stateAt, stateBytes}
 
 -- the refusal of a state afresh, 0 for none: 10, and 13 where there is no room for a state
 abbrev pub afreshNumber : ℕ → ℕ → List ℕ → ℕ
-afreshNumber W H b = cond (not (allowed W H)) (refusalNumber PageMeasure) (cond (ltb (length b) 808) (refusalNumber UnsoundState) 0)
+afreshNumber W H b = cond (not (allowed W H)) (refusalNumber PageMeasure) (cond (ltb (length b) stateTakes) (refusalNumber UnsoundState) 0)
 
 -- the bytes behind it: a refusal writes nothing
 abbrev pub afreshBytes : ℕ → ℕ → List ℕ → List ℕ
-afreshBytes W H b = cond (not (allowed W H)) b (cond (ltb (length b) 808) b (sets b 0 (stateBytes (afresh (measureOf W H)))))
+afreshBytes W H b = cond (not (allowed W H)) b (cond (ltb (length b) stateTakes) b (sets b 0 (stateBytes (afresh (measureOf W H)))))
 
 pub record MadeAfresh (W H : ℕ) (before : List ℕ) (r : ℕ) (after : List ℕ) : Type 0 where
   pub number : r ≡ afreshNumber W H before
@@ -38,9 +39,6 @@ bytesBehind (Refused why) t b = b
 
 abbrev pub keptAfter : Ran → List ℕ → List ℕ
 keptAfter r b = bytesBehind (r .verdict) (r .state) b
-
-abbrev pub flagged : Bool → ℕ
-flagged t = cond t 1 0
 
 -- a run answered: the outcome of the rules in the state that the bytes are read as. The refusal and the finding are two numbers; by the rules a refused
 -- run has no finding

@@ -9,7 +9,8 @@ ghost use Rattle.common.specs.Bits.{onesAll};
 ghost use Rattle.rules.specs.Measure.{allowed, measureOf, pageBytes};
 ghost use Rattle.rules.specs.Sound.{sound};
 ghost use Rattle.state_load.specs.Kept.{stateAt};
-ghost use Rattle.door.specs.Answers.{MadeAfresh, keptAfter, flagged, Answered, ToldPlain};
+ghost use Rattle.door.specs.Answers.{MadeAfresh, keptAfter, Answered, ToldPlain};
+use common::flag;
 use number_finding::finding_number;
 use number_finding::refusal_number;
 use number_finding::verdict_number;
@@ -17,6 +18,7 @@ use rules::Ran;
 use rules::Refusal;
 use rules::Verdict;
 use state_afresh::afresh;
+use state_load::STATE_BYTES;
 use state_load::read_state;
 use state_page::allowed;
 use state_page::measure_of;
@@ -31,7 +33,7 @@ pub extern "C" fn rov_afresh(w: usize, h: usize, state: &mut [u8]) -> u32
     if !allowed(w, h) {
         return refusal_number(Refusal::PageMeasure);
     }
-    if state.len() < 808 {
+    if state.len() < STATE_BYTES {
         return refusal_number(Refusal::UnsoundState);
     }
     let g = measure_of(w, h);
@@ -83,13 +85,6 @@ fn give_back(r: Ran, state: &mut [u8])
     }
 }
 
-// A flag as a number.
-fn flag_of(t: bool) -> usize
-    ensures { λ r. ⌜ r ≡ flagged t ⌝ }
-{
-    if t { 1 } else { 0 }
-}
-
 // At most `allowance` items of the stream, from *place on. The page is the caller's between calls, so none of its bytes are known to be zero.
 #[no_mangle]
 pub extern "C" fn rov_run(
@@ -115,7 +110,7 @@ pub extern "C" fn rov_run(
     let told = r.finding;
     *finding = finding_number(told);
     *found = r.found;
-    *ended = flag_of(r.ended);
+    *ended = flag(r.ended);
     give_back(r, state);
     let outcome = r.verdict;
     verdict_number(outcome)
