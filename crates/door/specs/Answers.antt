@@ -28,6 +28,7 @@ afreshNumber W H b = cond (not (allowed W H)) (refusalNumber PageMeasure) (cond 
 abbrev pub afreshBytes : ℕ → ℕ → List ℕ → List ℕ
 afreshBytes W H b = cond (not (allowed W H)) b (cond (ltb (length b) stateTakes) b (sets b 0 (stateBytes (afresh (measureOf W H)))))
 
+-- a state afresh made: the number given, and the bytes lent
 pub record MadeAfresh (W H : ℕ) (before : List ℕ) (r : ℕ) (after : List ℕ) : Type 0 where
   pub number : r ≡ afreshNumber W H before
   pub bytes : after ≡ afreshBytes W H before
@@ -58,3 +59,19 @@ pub record ToldPlain (W H : ℕ) (stream room : List ℕ) (n : ℕ) (room′ : L
   pub room-is : room′ ≡ translate W H stream room .room
   pub length-is : long ≡ translate W H stream room .given .length
   pub demand : allowed W H ≡ true → Demand3 (measureOf W H) stream
+
+-- One outcome: two that a promise allows for one input are equal, each number and each byte that was lent. `rov_sound` and `rov_dots` promise by an
+-- equation, whose other side is the one outcome.
+abbrev pub OneAfresh : Type 0
+OneAfresh = (W H : ℕ) (before : List ℕ) (r r′ : ℕ) (after after′ : List ℕ) → MadeAfresh W H before r after → MadeAfresh W H before r′ after′ → (r ≡ r′) × (after ≡ after′)
+
+-- all that a run gives: its number, the page and the state lent, and the five numbers
+abbrev pub OneAnswer : Type 0
+OneAnswer = (W H : ℕ) (page stream state : List ℕ) (allowance place n n₁ : ℕ) (page′ page₁ state′ state₁ : List ℕ) (place′ place₁ done done₁ finding finding₁ found found₁ ended ended₁ : ℕ)
+    → Answered W H page stream state allowance place n page′ state′ place′ done finding found ended
+    → Answered W H page stream state allowance place n₁ page₁ state₁ place₁ done₁ finding₁ found₁ ended₁
+    → (n ≡ n₁) × (page′ ≡ page₁) × (state′ ≡ state₁) × (place′ ≡ place₁) × (done ≡ done₁) × (finding ≡ finding₁) × (found ≡ found₁) × (ended ≡ ended₁)
+
+abbrev pub OneTold : Type 0
+OneTold = (W H : ℕ) (stream room : List ℕ) (n n₁ : ℕ) (room′ room₁ : List ℕ) (long long₁ : ℕ) → ToldPlain W H stream room n room′ long → ToldPlain W H stream room n₁ room₁ long₁
+    → (n ≡ n₁) × (room′ ≡ room₁) × (long ≡ long₁)
