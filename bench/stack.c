@@ -1,5 +1,5 @@
-/* The stack that one rov_run and one rov_translate use: each stream is run, and translated, on a stack filled with a pattern, and the lowest
- * word that was changed tells how deep the call went. Prints a table of both depths for each kind of item and the deepest, in bytes. The call's own
+/* The stack that each call uses: it is made on a stack filled with a pattern, and the lowest word that was changed tells how deep it went. Prints a table of
+ * a run's and a translation's depth for each kind of item, and one of the deepest of each call, in bytes. The call's own
  * arguments and return address are counted; what an empty function needs on the same stack is not. */
 #include "side.h"
 #include <stdio.h>
@@ -11,7 +11,8 @@ enum { W = 4800, H = 6800, PAGE = W / 8 * H, WORDS = 1 << 17 };
 
 static const uint64_t pattern = 0xA5C3F00D5EEDBEEFu;
 static uint64_t words[WORDS];
-static uint8_t page[PAGE], state[ROV_STATE], room[4096];
+static uint8_t page[PAGE], state[ROV_STATE], room[1 << 16];
+static char made[1 << 16]; /* a stream that is put together here */
 static ucontext_t caller, callee;
 
 /* What the call on the other stack works on; it takes no arguments of its own, and has nothing on that stack. */
@@ -19,18 +20,25 @@ static const uint8_t *stream;
 static size_t stream_n, page_n = PAGE, room_n = sizeof room, place, done, found, ended, items, length;
 static uint32_t finding, stopped, refusal; /* of the last call; `stopped` is the last finding that there was */
 
+static size_t wide = W, state_n = ROV_STATE, dots;
+static bool sound;
+
 static void nothing(void) {}
+
+static void afresh(void) { refusal = rov_afresh(wide, H, state, state_n); }
+static void soundness(void) { sound = rov_sound(wide, H, state, state_n); }
+static void count(void) { dots = rov_dots(wide, H, page, page_n); }
 
 /* To the stream's end, resumed at each stop. */
 static void whole_run(void) {
     do {
-        refusal = rov_run(W, H, page, page_n, stream, stream_n, state, ROV_STATE, SIZE_MAX, &place, &done, &finding, &found, &ended);
+        refusal = rov_run(wide, H, page, page_n, stream, stream_n, state, state_n, SIZE_MAX, &place, &done, &finding, &found, &ended);
         if (finding) stopped = finding;
         items += done;
     } while (!refusal && (finding || ended));
 }
 
-static void translation(void) { refusal = rov_translate(W, H, stream, stream_n, room, room_n, &length); }
+static void translation(void) { refusal = rov_translate(wide, H, stream, stream_n, room, room_n, &length); }
 
 static size_t depth_of(void (*function)(void)) {
     size_t low = 0;
@@ -52,6 +60,9 @@ struct kind {
 };
 #define S(text) text, sizeof(text) - 1
 
+/* seven positions pushed */
+#define PUSH "\33&f0s0s0s0s0s0s0S"
+
 static const struct kind kinds[] = {
     {"text and spaces", S("Rm 412 MPa \xE4\xFF"), 0},
     {"codes", S("\r\n\t\b\f\0\x7F"), 0},
@@ -64,6 +75,7 @@ static const struct kind kinds[] = {
     {"margins", S("\33&a5l60M\33&l2E"), 0},
     {"HMI and VMI", S("\33&k10.5H\33&l7.5C\33&l6D"), 0},
     {"push and pop", S("\33&f0S\33&f1S"), 0},
+    {"push when full", S(PUSH PUSH PUSH "\33&f0S"), 5},
     {"raster start, rows down, end", S("\33*t150R\33*r1A\33*b2m9Y\33*rB\33*rC"), 0},
     {"transparent text", S("\33&p5X\33E a\xFF"), 0},
     {"row, method 0, 75", S("\33*b2W\xFF\x80"), 0},
@@ -94,36 +106,139 @@ static void must(int holds, const char *what) {
     exit(1);
 }
 
+/* The calls, and the deepest of each so far. */
+enum { AFRESH, SOUND, DOTS, RUN, TRANSLATE, CALLS };
+static const char *const calls[CALLS] = {"rov_afresh", "rov_sound", "rov_dots", "rov_run", "rov_translate"};
+static size_t most[CALLS];
+
+static size_t deep(int call, void (*function)(void)) {
+    size_t d = depth_of(function) - depth_of(nothing);
+    if (d > most[call]) most[call] = d;
+    return d;
+}
+
 struct depths {
     size_t run, translation;
 };
 
-static struct depths measured(const struct kind *k) {
-    size_t none = depth_of(nothing);
-    struct depths d;
+static size_t larger(size_t a, size_t b) { return a > b ? a : b; }
+
+/* A stream run and translated from a state afresh; d becomes the deeper of both, each. */
+static void measure(struct depths *d, const char *name, const char *bytes, size_t n, uint32_t found_there) {
     must(rov_afresh(W, H, state, ROV_STATE) == 0, "afresh");
-    stream = (const uint8_t *)k->bytes;
-    stream_n = k->n;
+    stream = (const uint8_t *)bytes;
+    stream_n = n;
     place = items = stopped = 0;
-    d.run = depth_of(whole_run) - none;
-    must(stopped == k->finding && refusal == (page_n ? 0 : 11) && (items > 0) == (stream_n > 0 && page_n > 0), k->name);
-    d.translation = depth_of(translation) - none;
-    must(refusal == (room_n ? 0 : 15), k->name);
-    printf("| %s | %zu | %zu |\n", k->name, d.run, d.translation);
-    return d;
+    d->run = larger(d->run, deep(RUN, whole_run));
+    must(stopped == found_there && refusal == 0 && (items > 0) == (n > 0), name);
+    d->translation = larger(d->translation, deep(TRANSLATE, translation));
+    must(refusal == 0, name);
+    deep(SOUND, soundness);
+    must(sound, name);
+    deep(DOTS, count);
+}
+
+static void tell(const char *name, struct depths d) { printf("| %s | %zu | %zu |\n", name, d.run, d.translation); }
+
+/* Values of every length: 1 to 5 digits before the point, 0 to 4 places behind it, without a sign and with both. */
+static void values(void) {
+    static const char *const signs[] = {"", "+", "-"};
+    const char *name = "values of 1 to 5 digits and 0 to 4 places";
+    struct depths d = {0, 0};
+    for (int digits = 1; digits <= 5; digits++)
+        for (int places = 0; places <= 4; places++)
+            for (int s = 0; s < 3; s++) {
+                int n = sprintf(made, "\33&a%s%.*s%s%.*sC\33*p%s%.*sX\33&k%.*s%s%.*sH", signs[s], digits, "12345", places ? "." : "", places, "6789", signs[s],
+                                digits, "12345", digits, "12345", places ? "." : "", places, "6789");
+                measure(&d, name, made, (size_t)n, 0);
+            }
+    tell(name, d);
+}
+
+/* Payloads whose count has 1 to 5 digits. */
+static void counts(const char *name, const char *start, char letter, int fill) {
+    static const size_t long_as[] = {7, 42, 601, 4321, 12345};
+    struct depths d = {0, 0};
+    for (int i = 0; i < 5; i++) {
+        int n = sprintf(made, "%s%zu%c", start, long_as[i], letter);
+        memset(made + n, fill, long_as[i]);
+        measure(&d, name, made, (size_t)n + long_as[i], 0);
+    }
+    tell(name, d);
+}
+
+/* A value of a thousand digits, all but the last of them zeros. */
+static void long_value(void) {
+    const char *name = "a value of a thousand digits";
+    struct depths d = {0, 0};
+    int n = sprintf(made, "\33&a%01000dC", 5);
+    measure(&d, name, made, (size_t)n, 0);
+    tell(name, d);
+}
+
+/* Each refusal of each call, in the order of their numbers. */
+static void refused(int call, void (*function)(void), uint32_t number) {
+    deep(call, function);
+    must(refusal == number, calls[call]);
+}
+
+static void refusals(void) {
+    stream = (const uint8_t *)made;
+    stream_n = 1;
+    place = 0;
+    wide = 7;
+    refused(AFRESH, afresh, 10);
+    refused(RUN, whole_run, 10);
+    refused(TRANSLATE, translation, 10);
+    deep(SOUND, soundness);
+    must(!sound, "sound on no page");
+    deep(DOTS, count);
+    must(dots == 0, "dots on no page");
+    wide = W;
+    page_n = PAGE - 1;
+    refused(RUN, whole_run, 11);
+    deep(DOTS, count);
+    must(dots == 0, "dots on a short page");
+    page_n = PAGE;
+    stream_n = 1048577; /* nothing of it is read */
+    refused(RUN, whole_run, 12);
+    refused(TRANSLATE, translation, 12);
+    stream_n = 1;
+    state_n = ROV_STATE - 1;
+    refused(AFRESH, afresh, 13);
+    refused(RUN, whole_run, 13);
+    deep(SOUND, soundness);
+    must(!sound, "sound in too few bytes");
+    state_n = ROV_STATE;
+    place = 2;
+    refused(RUN, whole_run, 14);
+    place = 0;
+    made[0] = 'a';
+    room_n = 0;
+    refused(TRANSLATE, translation, 15);
+    room_n = sizeof room;
+    deep(AFRESH, afresh);
+    must(refusal == 0, "afresh");
 }
 
 int main(void) {
-    static const struct kind refused = {"a page or a room that is too short", S("a"), 0};
-    struct depths deepest = {0, 0}, d;
+    int first = 0;
     puts("| Item | Run | Translation |\n|---|---|---|");
-    for (size_t i = 0; i <= sizeof kinds / sizeof kinds[0]; i++) {
-        int last = i == sizeof kinds / sizeof kinds[0];
-        if (last) page_n = room_n = 0;
-        d = measured(last ? &refused : &kinds[i]);
-        if (d.run > deepest.run) deepest.run = d.run;
-        if (d.translation > deepest.translation) deepest.translation = d.translation;
+    for (size_t i = 0; i < sizeof kinds / sizeof kinds[0]; i++) {
+        struct depths d = {0, 0};
+        measure(&d, kinds[i].name, kinds[i].bytes, kinds[i].n, kinds[i].finding);
+        tell(kinds[i].name, d);
     }
-    printf("| **the deepest** | **%zu** | **%zu** |\n", deepest.run, deepest.translation);
+    values();
+    long_value();
+    counts("rows, counts of 1 to 5 digits", "\33*b", 'W', 0xA5);
+    counts("transparent text, counts of 1 to 5 digits", "\33&p", 'X', 'a');
+    refusals();
+    puts("\n| Call, at its deepest | Stack |\n|---|---|");
+    for (int i = 0; i < CALLS; i++) {
+        printf("| `%s` | %zu |\n", calls[i], most[i]);
+        if (most[i] > most[first]) first = i;
+    }
+    printf("\nThe most is `%s`'s.\n", calls[first]);
     return 0;
 }

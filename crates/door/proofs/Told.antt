@@ -10,6 +10,7 @@ use lib.ListN.{length, take, length-take}
 use lib.Seq.{sets}
 use borrow.Author.Tests.{not-true, not-false, lt-ltb, le-ltb, lt-leb, le-leb}
 use Rattle.common.specs.Bits.{onesAll}
+use Rattle.common.specs.Choice.{flagged}
 use Rattle.rules.specs.declared.Measure.{Measure}
 use Rattle.rules.specs.declared.Refusal.{Refusal}
 use Rattle.rules.specs.declared.Refusal.the-variants.{PageMeasure, UnsoundState}
@@ -24,8 +25,8 @@ use Rattle.rules.specs.Run.{answer}
 use Rattle.rules.specs.declared.Translated.{Translated}
 use Rattle.theorems.specs.Statements.{RunPromise, TranslatePromise}
 use Rattle.theorems.specs.Facts.{Fits}
-use Rattle.state_load.specs.Kept.{stateAt, stateBytes}
-use Rattle.door.specs.Answers.{MadeAfresh, keptAfter, flagged, Answered, ToldPlain}
+use Rattle.state_load.specs.Kept.{stateTakes, stateAt, stateBytes}
+use Rattle.door.specs.Answers.{MadeAfresh, keptAfter, Answered, ToldPlain}
 
 module _ (W H : ℕ) (x : Bool) (a : x ≡ allowed W H) where
   -- 10
@@ -33,13 +34,13 @@ module _ (W H : ℕ) (x : Bool) (a : x ≡ allowed W H) where
   afresh-measure b r e h = record { number = rw (← a, not-true x e) h; bytes = rw (← a, not-true x e) }
 
   -- 13
-  pub afresh-short : (b : List ℕ) (r : ℕ) → not x ≡ false → length b < 808 → r ≡ refusalNumber UnsoundState → MadeAfresh W H b r b
-  afresh-short b r e l h = let z = lt-ltb (length b) 808 l in record { number = rw (← a, not-false x e, z) h; bytes = rw (← a, not-false x e, z) }
+  pub afresh-short : (b : List ℕ) (r : ℕ) → not x ≡ false → length b < stateTakes → r ≡ refusalNumber UnsoundState → MadeAfresh W H b r b
+  afresh-short b r e l h = let z = lt-ltb (length b) stateTakes l in record { number = rw (← a, not-false x e, z) h; bytes = rw (← a, not-false x e, z) }
 
   -- made
-  pub afresh-made : (b after : List ℕ) (g : Measure) (t : State) → not x ≡ false → 808 ≤ length b → g ≡ measureOf W H → t ≡ afresh g → after ≡ sets b 0 (stateBytes t) → MadeAfresh W H b 0 after
+  pub afresh-made : (b after : List ℕ) (g : Measure) (t : State) → not x ≡ false → stateTakes ≤ length b → g ≡ measureOf W H → t ≡ afresh g → after ≡ sets b 0 (stateBytes t) → MadeAfresh W H b 0 after
   afresh-made b after g t e l m s h =
-      let z = le-ltb (length b) 808 l in
+      let z = le-ltb (length b) stateTakes l in
       record { number = rw (← a, not-false x e, z); bytes = rw (← a, not-false x e, z) (h ∙ ap (λ (u : State). sets b 0 (stateBytes u)) (s ∙ ap afresh m)) }
 
   -- no measure, no sound state

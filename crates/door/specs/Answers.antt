@@ -1,11 +1,12 @@
 -- What the functions for C answer: the rules' outcome, as numbers and bytes.
 use mathlib.Core.Path.{_≡_}
-use mathlib.Core.Bool.{Bool, true, cond, not}
+use mathlib.Core.Bool.{true, cond, not}
 use mathlib.Core.List.{List}
 use Prim.Native.Nat.{ℕ}
 use lib.Dec.{ltb}
 use lib.ListN.{length}
 use lib.Seq.{sets}
+use Rattle.common.specs.Choice.{flagged}
 use Rattle.rules.specs.declared.Refusal.the-variants.{PageMeasure, UnsoundState}
 use Rattle.rules.specs.declared.Verdict.{Verdict}
 use Rattle.rules.specs.declared.Verdict.the-variants.{Carried, Refused}
@@ -17,16 +18,17 @@ use Rattle.rules.specs.States.{afresh}
 use Rattle.rules.specs.Run.{answer}
 use Rattle.rules.specs.Plain.{translate}
 use Rattle.theorems.specs.Statements.{Demand3}
-use Rattle.state_load.specs.Kept.{stateAt, stateBytes}
+use Rattle.state_load.specs.Kept.{stateTakes, stateAt, stateBytes}
 
 -- the refusal of a state afresh, 0 for none: 10, and 13 where there is no room for a state
 abbrev pub afreshNumber : ℕ → ℕ → List ℕ → ℕ
-afreshNumber W H b = cond (not (allowed W H)) (refusalNumber PageMeasure) (cond (ltb (length b) 808) (refusalNumber UnsoundState) 0)
+afreshNumber W H b = cond (not (allowed W H)) (refusalNumber PageMeasure) (cond (ltb (length b) stateTakes) (refusalNumber UnsoundState) 0)
 
 -- the bytes behind it: a refusal writes nothing
 abbrev pub afreshBytes : ℕ → ℕ → List ℕ → List ℕ
-afreshBytes W H b = cond (not (allowed W H)) b (cond (ltb (length b) 808) b (sets b 0 (stateBytes (afresh (measureOf W H)))))
+afreshBytes W H b = cond (not (allowed W H)) b (cond (ltb (length b) stateTakes) b (sets b 0 (stateBytes (afresh (measureOf W H)))))
 
+-- a state afresh made: the number given, and the bytes lent
 pub record MadeAfresh (W H : ℕ) (before : List ℕ) (r : ℕ) (after : List ℕ) : Type 0 where
   pub number : r ≡ afreshNumber W H before
   pub bytes : after ≡ afreshBytes W H before
@@ -38,9 +40,6 @@ bytesBehind (Refused why) t b = b
 
 abbrev pub keptAfter : Ran → List ℕ → List ℕ
 keptAfter r b = bytesBehind (r .verdict) (r .state) b
-
-abbrev pub flagged : Bool → ℕ
-flagged t = cond t 1 0
 
 -- a run answered: the outcome of the rules in the state that the bytes are read as. The refusal and the finding are two numbers; by the rules a refused
 -- run has no finding
@@ -60,3 +59,19 @@ pub record ToldPlain (W H : ℕ) (stream room : List ℕ) (n : ℕ) (room′ : L
   pub room-is : room′ ≡ translate W H stream room .room
   pub length-is : long ≡ translate W H stream room .given .length
   pub demand : allowed W H ≡ true → Demand3 (measureOf W H) stream
+
+-- One outcome: two that a promise allows for one input are equal, each number and each byte that was lent. `rov_sound` and `rov_dots` promise by an
+-- equation, whose other side is the one outcome.
+abbrev pub OneAfresh : Type 0
+OneAfresh = (W H : ℕ) (before : List ℕ) (r r′ : ℕ) (after after′ : List ℕ) → MadeAfresh W H before r after → MadeAfresh W H before r′ after′ → (r ≡ r′) × (after ≡ after′)
+
+-- all that a run gives: its number, the page and the state lent, and the five numbers
+abbrev pub OneAnswer : Type 0
+OneAnswer = (W H : ℕ) (page stream state : List ℕ) (allowance place n n₁ : ℕ) (page′ page₁ state′ state₁ : List ℕ) (place′ place₁ done done₁ finding finding₁ found found₁ ended ended₁ : ℕ)
+    → Answered W H page stream state allowance place n page′ state′ place′ done finding found ended
+    → Answered W H page stream state allowance place n₁ page₁ state₁ place₁ done₁ finding₁ found₁ ended₁
+    → (n ≡ n₁) × (page′ ≡ page₁) × (state′ ≡ state₁) × (place′ ≡ place₁) × (done ≡ done₁) × (finding ≡ finding₁) × (found ≡ found₁) × (ended ≡ ended₁)
+
+abbrev pub OneTold : Type 0
+OneTold = (W H : ℕ) (stream room : List ℕ) (n n₁ : ℕ) (room′ room₁ : List ℕ) (long long₁ : ℕ) → ToldPlain W H stream room n room′ long → ToldPlain W H stream room n₁ room₁ long₁
+    → (n ≡ n₁) × (room′ ≡ room₁) × (long ≡ long₁)

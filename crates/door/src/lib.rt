@@ -9,14 +9,16 @@ ghost use Rattle.common.specs.Bits.{onesAll};
 ghost use Rattle.rules.specs.Measure.{allowed, measureOf, pageBytes};
 ghost use Rattle.rules.specs.Sound.{sound};
 ghost use Rattle.state_load.specs.Kept.{stateAt};
-ghost use Rattle.rules.specs.Findings.{verdictNumber};
-ghost use Rattle.door.specs.Answers.{MadeAfresh, keptAfter, flagged, Answered, ToldPlain};
+ghost use Rattle.door.specs.Answers.{MadeAfresh, keptAfter, Answered, ToldPlain};
+use common::flag;
 use number_finding::finding_number;
 use number_finding::refusal_number;
+use number_finding::verdict_number;
 use rules::Ran;
 use rules::Refusal;
 use rules::Verdict;
 use state_afresh::afresh;
+use state_load::STATE_BYTES;
 use state_load::read_state;
 use state_page::allowed;
 use state_page::measure_of;
@@ -31,7 +33,7 @@ pub extern "C" fn rov_afresh(w: usize, h: usize, state: &mut [u8]) -> u32
     if !allowed(w, h) {
         return refusal_number(Refusal::PageMeasure);
     }
-    if state.len() < 808 {
+    if state.len() < STATE_BYTES {
         return refusal_number(Refusal::UnsoundState);
     }
     let g = measure_of(w, h);
@@ -69,16 +71,6 @@ pub extern "C" fn rov_dots(w: usize, h: usize, page: &[u8]) -> usize
     dot_page::count(&page[0..n])
 }
 
-// A verdict's number, 0 where the call was carried out.
-fn verdict_number(v: Verdict) -> u32
-    ensures { λ r. ⌜ r ≡ verdictNumber v ⌝ }
-{
-    match v {
-        Verdict::Carried => 0,
-        Verdict::Refused(why) => refusal_number(why),
-    }
-}
-
 // The state behind a run, written back where it was carried out.
 fn give_back(r: Ran, state: &mut [u8])
     ensures { λ _. ⌜ now (state .exit) ≡ keptAfter r (now (state .entry)) ⌝ }
@@ -91,13 +83,6 @@ fn give_back(r: Ran, state: &mut [u8])
         }
         Verdict::Refused(_) => {}
     }
-}
-
-// A flag as a number.
-fn flag_of(t: bool) -> usize
-    ensures { λ r. ⌜ r ≡ flagged t ⌝ }
-{
-    if t { 1 } else { 0 }
 }
 
 // At most `allowance` items of the stream, from *place on. The page is the caller's between calls, so none of its bytes are known to be zero.
@@ -125,7 +110,7 @@ pub extern "C" fn rov_run(
     let told = r.finding;
     *finding = finding_number(told);
     *found = r.found;
-    *ended = flag_of(r.ended);
+    *ended = flag(r.ended);
     give_back(r, state);
     let outcome = r.verdict;
     verdict_number(outcome)

@@ -1,8 +1,9 @@
-// The paper's number for each finding and for each refusal, and whether there is a finding at all.
+// The paper's number for each finding, each refusal and each verdict, and whether there is a finding at all.
 ghost use mathlib.Core.Path.{_≡_};
-ghost use Rattle.rules.specs.Findings.{findingNumber, isClean, refusalNumber};
+ghost use Rattle.rules.specs.Findings.{findingNumber, isClean, refusalNumber, verdictNumber};
 use rules::Finding;
 use rules::Refusal;
+use rules::Verdict;
 
 // A finding's number, 0 for none.
 pub fn finding_number(f: Finding) -> u32
@@ -47,5 +48,15 @@ pub fn refusal_number(why: Refusal) -> u32
         Refusal::UnsoundState => 13,
         Refusal::StartPlace => 14,
         Refusal::Room => 15,
+    }
+}
+
+// A verdict's number, 0 where the call was carried out.
+pub fn verdict_number(v: Verdict) -> u32
+    ensures { λ r. ⌜ r ≡ verdictNumber v ⌝ }
+{
+    match v {
+        Verdict::Carried => 0,
+        Verdict::Refused(why) => refusal_number(why),
     }
 }

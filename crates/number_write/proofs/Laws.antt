@@ -73,7 +73,7 @@ upto-enough (suc f) n s h =
     ap (λ l. cond (ltb n 10) ((48 + n) ∷ s) l) (upto-enough f (n / 10) ((48 + n % 10) ∷ s) (omega (arith, pow-suc 10 (suc f))))
 
 -- a number of several digits with so many allowed: its last digit is written, and what is before it
-upto-last : (f n : ℕ) (s : List ℕ) → 10 ≤ n → decimalUpTo (suc f) n s ≡ decimalUpTo f (n / 10) ((48 + n % 10) ∷ s)
+pub upto-last : (f n : ℕ) (s : List ℕ) → 10 ≤ n → decimalUpTo (suc f) n s ≡ decimalUpTo f (n / 10) ((48 + n % 10) ∷ s)
 unfolding decimalUpTo
 upto-last f n s h = rw (le-ltb n 10 h)
 

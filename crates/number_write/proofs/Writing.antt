@@ -1,21 +1,22 @@
 -- Numbers written into a lent room. Assumes nothing.
-use mathlib.Core.Path.{_≡_, refl, sym, _∙_}
+use mathlib.Core.Path.{_≡_, refl, sym, ap, _∙_}
 use mathlib.Core.Bool.{Bool, cond}
 use mathlib.Core.List.{List, [], _∷_}
-use Prim.Native.Nat.{ℕ, _+_, _*_, _/_, _%_, _≤_, _<_}
+use Prim.Native.Nat.{ℕ, zero, suc, _+_, _-_, _*_, _/_, _%_, _^_, _≤_, _<_, min}
 use native.Mathlib.Omega.{arith}
-use native.Mathlib.Nat.{div-lt-iff-lt-mul}
+use native.Mathlib.Nat.{div-lt-iff-lt-mul, pow-suc}
+use native.Mathlib.Numerals.{add-one}
 use mir.Syntax.{w64}
 use mir.Val.{Fits}
-use lib.ListN.{length}
-use lib.Seq.{set-out}
-use borrow.Author.Tests.{eq-eqb, ne-eqb}
+use lib.ListN.{length, getD, take, drop, set, length-set, drop-of-length-le}
+use lib.Seq.{set-out, set-split, drop-at, drop-cons, length-take-le}
+use borrow.Author.Tests.{eq-eqb, ne-eqb, lt-ltb}
 use Rattle.common.specs.Stores.{Wrote}
-use Rattle.common.proofs.Stores.{wrote-none, wrote-both}
+use Rattle.common.proofs.Stores.{sets-at, wrote-none, wrote-both}
 use Rattle.rules.specs.declared.Value.{Value}
 use Rattle.rules.specs.declared.Value.the-variants.{Absolute, Relative}
-use Rattle.rules.specs.Plain.{decimal, placesUpTo, putSize, putValue}
-use Rattle.number_write.proofs.Laws.{decimal-append, decimal-digit, decimal-last}
+use Rattle.rules.specs.Plain.{decimalUpTo, decimal, placesUpTo, putSize, putValue}
+use Rattle.number_write.proofs.Laws.{decimal-append, upto-last}
 use Rattle.number_write.proofs.Places.{Weighed, weighed, place, places-none, places-some}
 
 -- there is no room for a byte
@@ -24,14 +25,78 @@ wrote-full l at b h = record { next = omega arith; held = sym (set-out l at b h)
 
 -- ---- decimal
 
--- a number of one digit is written by a byte
-pub wrote-digit : {l l' : List ℕ} {at r : ℕ} (n : ℕ) → n < 10 → Wrote l at ((48 + n) ∷ []) l' r → Wrote l at (decimal n []) l' r
-wrote-digit n h p = rw (decimal-digit n [] h) p
+-- the loop that fills in digits, the last first: with those that are left all are there
+pub record Filling (n : ℕ) (now : List ℕ) (left i : ℕ) : Type 0 where
+  pub inside : i < 20
+  pub kept : length now ≡ 20
+  pub low : left < 10 ^ suc i
+  pub ends : decimalUpTo (suc i) left (drop (suc i) now) ≡ decimal n []
 
--- a longer one by all digits but the last, and then the last
-pub wrote-last : {l l1 l2 : List ℕ} {at m r : ℕ} (n : ℕ) → Fits w64 n → 10 ≤ n
-    → Wrote l at (decimal (n / 10) []) l1 m → Wrote l1 m ((48 + n % 10) ∷ []) l2 r → Wrote l at (decimal n []) l2 r
-wrote-last n f h p q = rw (decimal-last n [] h (omega arith), decimal-append (n / 10) [] ((48 + n % 10) ∷ [])) (wrote-both p q)
+-- none is there yet
+pub filling-start : (n : ℕ) (l : List ℕ) → Fits w64 n → length l ≡ 20 → Filling n l n 19
+unfolding decimal
+filling-start n l f e = record { inside = omega arith; kept = e; low = omega arith; ends = ap (decimalUpTo 20 n) (drop-of-length-le l {i = 20} (omega arith)) }
+
+-- the bytes from the place of a store on
+drop-stored : (l : List ℕ) (i b : ℕ) → i < length l → drop i (set l i b) ≡ b ∷ drop (suc i) l
+drop-stored l i b h = rw (set-split l i b h) (drop-at (take i l) (b ∷ drop (suc i) l) i (length-take-le i l (omega arith)))
+
+-- a number of several digits has a place before this one
+pub filling-more : (n : ℕ) (now : List ℕ) (left i : ℕ) → Filling n now left i → 10 ≤ left → 1 ≤ i
+filling-more n now left zero f h = absurd (omega (arith, f .low))
+filling-more n now left (suc k) f h = omega arith
+
+-- its last digit goes to this place
+filling-less : (n : ℕ) (now : List ℕ) (left k b : ℕ) → Filling n now left (suc k) → 10 ≤ left → b ≡ 48 + left % 10 → Filling n (set now (suc k) b) (left / 10) k
+filling-less n now left k b f h e =
+    let d : drop (suc k) (set now (suc k) b) ≡ (48 + left % 10) ∷ drop (suc (suc k)) now = rw (← e) (drop-stored now (suc k) b (omega (arith, f .inside, f .kept))) in
+    record {
+      inside = omega (arith, f .inside);
+      kept = length-set now (suc k) b ∙ f .kept;
+      low = omega (arith, f .low, pow-suc 10 (suc k));
+      ends = rw d (rw (upto-last (suc k) left (drop (suc (suc k)) now) h) at (f .ends));
+    }
+
+pub filling-again : (n : ℕ) (now : List ℕ) (left i b : ℕ) → Filling n now left i → 10 ≤ left → b ≡ 48 + left % 10 → Filling n (set now i b) (left / 10) (i - 1)
+filling-again n now left zero b f h e = absurd (omega (arith, f .low))
+filling-again n now left (suc k) b f h e = let z : suc k - 1 ≡ k = omega arith in rw z (filling-less n now left k b f h e)
+
+-- and then the first
+pub filling-end : (n : ℕ) (now : List ℕ) (left i b : ℕ) → Filling n now left i → left < 10 → b ≡ 48 + left → drop i (set now i b) ≡ decimal n []
+unfolding decimalUpTo
+filling-end n now left i b f h e =
+    drop-stored now i b (omega (arith, f .inside, f .kept)) ∙ ap (λ x. x ∷ drop (suc i) now) e ∙ rw (lt-ltb left 10 h) at (f .ends)
+
+-- the loop that writes bytes: with those that are left all are written
+pub record Copying (before : List ℕ) (at from : ℕ) (bytes now : List ℕ) (i next : ℕ) : Type 0 where
+  pub kept : length now ≡ length before
+  pub inside : next ≤ length now
+  pub ends : (after : List ℕ) (r : ℕ) → Wrote now next (drop i bytes) after r → Wrote before at (drop from bytes) after r
+
+-- nothing is written yet
+pub copying-start : (l bytes : List ℕ) (i at next : ℕ) → next ≡ min at (length l) → Copying l next i bytes l i next
+copying-start l bytes i at next e = record { kept = refl; inside = omega arith; ends = λ after r w. w }
+
+module _ (before : List ℕ) (at from : ℕ) (bytes now : List ℕ) (i next : ℕ) (inv : Copying before at from bytes now i next) where
+  -- one more byte
+  pub copying-again : (after : List ℕ) (r : ℕ) → i < length bytes → length after ≡ length now → Wrote now next (getD bytes i 0 ∷ []) after r
+      → Copying before at from bytes after (i + 1) r
+  copying-again after r h k w = record {
+    kept = k ∙ inv .kept;
+    inside = let e = w .next in omega arith;
+    ends = λ l m v. inv .ends l m (rw (drop-cons bytes i 0 h) (wrote-both w (rw add-one at v)));
+  }
+
+  -- no more bytes
+  copying-end : length bytes ≤ i → Wrote before at (drop from bytes) now next
+  copying-end h = inv .ends now next (rw (drop-of-length-le bytes h) (wrote-none (inv .inside)))
+
+-- all digits are written; from the end of the room on any place is as good
+pub wrote-digits : (l l' bytes : List ℕ) (n at from start i r : ℕ) → Copying l start from bytes l' i r → start ≡ min at (length l) → drop from bytes ≡ decimal n [] → length bytes ≡ 20 → 20 ≤ i
+    → Wrote l at (decimal n []) l' r
+wrote-digits l l' bytes n at from start i r inv e d k h =
+    let p : Wrote l start (decimal n []) l' r = rw d at (copying-end l start from bytes l' i r inv (omega arith)) in
+    record { next = omega (arith, p .next); held = rw e at (p .held) ∙ sets-at l at (decimal n []) }
 
 -- ---- places behind a point
 

@@ -4,9 +4,10 @@ ghost use mathlib.Core.Path.{_≡_};
 ghost use mathlib.Core.Bool.{cond};
 ghost use mathlib.Core.List.{[], _∷_};
 ghost use Prim.Native.Nat.{_+_, _*_, _/_, _≤_, _<_};
-ghost use lib.ListN.{length};
+ghost use lib.ListN.{length, drop};
 ghost use Rattle.common.specs.Stores.{Wrote};
 ghost use Rattle.rules.specs.Plain.{decimal, placesUpTo, putSize, putValue};
+use common::least;
 use rules::Value;
 
 // One byte into the room, where there is room for it.
@@ -20,15 +21,34 @@ pub fn put_byte(b: u8, room: &mut [u8], at: usize) -> usize
     room.len()
 }
 
-// A number in decimal, with no leading zeros: all digits but the last, then the last.
+// The digits of a number, with no leading zeros, at the end of twenty bytes, the last first: where they begin.
+fn fill_digits(n: usize, digits: &mut [u8; 20]) -> usize
+    requires { ⌜ length (now digits) ≡ 20 ⌝ }
+    ensures { λ r. ⌜ (drop r (now (digits .exit)) ≡ decimal n []) × (r ≤ 20) × (length (now (digits .exit)) ≡ 20) ⌝ }
+{
+    let mut left = n;
+    let mut i: usize = 19;
+    while 10 <= left {
+        digits[i] = (48 + left % 10) as u8;
+        left = left / 10;
+        i -= 1;
+    }
+    digits[i] = (48 + left) as u8;
+    i
+}
+
+// A number in decimal, with no leading zeros.
 pub fn write_decimal(n: usize, room: &mut [u8], at: usize) -> usize
     ensures { λ r. ⌜ Wrote (now (room .entry)) at (decimal n []) (now (room .exit)) r ⌝ }
 {
-    if n < 10 {
-        return put_byte((48 + n) as u8, room, at);
+    let mut digits = [48u8; 20];
+    let mut i = fill_digits(n, &mut digits);
+    let mut next = least(at, room.len());
+    while i < 20 {
+        next = put_byte(digits[i], room, next);
+        i += 1;
     }
-    let last = write_decimal(n / 10, room, at);
-    put_byte((48 + n % 10) as u8, room, last)
+    next
 }
 
 // The first place of a number below ten times its weight.

@@ -15,20 +15,20 @@ use Rattle.rules.specs.declared.Refusal.the-variants.{PageMeasure, StreamLength
 use Rattle.rules.specs.declared.Verdict.{Verdict}
 use Rattle.rules.specs.declared.Verdict.the-variants.{Carried, Refused}
 use Rattle.rules.specs.declared.Translated.{Translated}
-use Rattle.rules.specs.Measure.{allowed, measureOf, longestStream}
+use Rattle.rules.specs.Measure.{allowed, measureOf, isTooLong}
 use Rattle.rules.specs.Findings.{refusalNumber, isRefused}
-use Rattle.rules.specs.Plain.{plain, Translation, translation, refusedRoom, tooLong, translate}
+use Rattle.rules.specs.Plain.{plain, Translation, translation, refusedRoom, noRoom, translate}
 use Rattle.rules.specs.Report.{line, REFUSED, refusedLine}
 use Rattle.theorems.specs.Statements.{TranslatePromise}
 use Rattle.plain_say.specs.declared.Saying.{Saying}
-use Rattle.plain_say.specs.Said.{saidBy, verdictOf, said, SaysRefused, Says}
+use Rattle.plain_say.specs.Said.{saidBy, verdictOf, said, SaysRefused, Says, OneSaying}
 
 abbrev sayingOf : Bool → ℕ → Saying
 sayingOf t n = record { refused = t; end = n }
 
 -- a refusal
 pub refused-said : (why : Refusal) (room after : List ℕ) (n end : ℕ) → n ≡ refusalNumber why → Wrote room 0 (line REFUSED (n ∷ []) []) after end → SaysRefused why room (sayingOf true end) after
-refused-said why room after n end e w = record { refused = refl; end = rw (e, zero-add) at (w .next); held = rw e at (w .held) }
+refused-said why room after n end e w = record { refused = refl; line = rw e at w }
 
 -- a translation by its verdict: the plain stream in the room, or the room as it was
 abbrev Stands : List ℕ → List ℕ → Verdict → Translation → Type 0
@@ -39,9 +39,9 @@ module _ (W H : ℕ) (s room : List ℕ) where
   abbrev text : List ℕ
   text = plain (measureOf W H) s
 
-  fits-there : tooLong text room ≡ false → Stands text room Carried (translation Carried (length text) (text ++ drop (length text) room))
+  fits-there : noRoom text room ≡ false → Stands text room Carried (translation Carried (length text) (text ++ drop (length text) room))
   fits-there e =
-      let l : length text ≤ length room = ltb-false (length room) (length text) (or-left (ltb (length room) (length text)) (ltb longestStream (length text)) e) in
+      let l : length text ≤ length room = ltb-false (length room) (length text) (or-left (ltb (length room) (length text)) (isTooLong text) e) in
       (l, refl, sym (rw zero-add at (sets-eq text room 0 (rw zero-add l))))
     where
       or-left : (t u : Bool) → (t || u) ≡ false → t ≡ false
@@ -50,9 +50,9 @@ module _ (W H : ℕ) (s room : List ℕ) where
 
   stands : Stands text room (verdictOf W H s room) (translate W H s room)
   unfolding translate
-  stands = go (not (allowed W H)) (ltb longestStream (length s)) (tooLong text room) refl
+  stands = go (not (allowed W H)) (isTooLong s) (noRoom text room) refl
     where
-      go : (a b t : Bool) → tooLong text room ≡ t
+      go : (a b t : Bool) → noRoom text room ≡ t
           → let o = cond a (refusedRoom PageMeasure room) (cond b (refusedRoom StreamLength room) (cond t (refusedRoom Room room) (translation Carried (length text) (text ++ drop (length text) room)))) in Stands text room (o .given .verdict) o
       go true b t e = refl
       go false true t e = refl
@@ -70,7 +70,7 @@ module _ (W H : ℕ) (s room : List ℕ) where
         let k : Stands text room Carried (translate W H s room) = rw v at stands in
         let n : r .length ≡ length text = ap (λ (x : Translated). x .length) (h .given) ∙ k .1 in
         let l = k .0 in
-        record { refused = rw v; end = rw v (omega arith); held = rw v (h .lent ∙ k .2) }
+        record { refused = rw v; text = rw v (record { next = omega arith; held = h .lent ∙ k .2 }) }
 
     -- the refusal is said, in the room as it was
     pub line-said : (why : Refusal) (q : Saying) (then : List ℕ) → r .verdict ≡ Refused why → SaysRefused why after q then → Says W H s room q then
@@ -78,4 +78,11 @@ module _ (W H : ℕ) (s room : List ℕ) where
         let v : verdictOf W H s room ≡ Refused why = sym same-verdict ∙ e in
         let k : Stands text room (Refused why) (translate W H s room) = rw v at stands in
         let u : after ≡ room = h .lent ∙ k in
-        record { refused = rw v (y .refused); end = rw v (rw u at (y .end)); held = rw v (rw u at (y .held)) }
+        record { refused = rw v (y .refused); text = rw v (rw u at (y .line)) }
+
+-- one saying
+pub one-saying : OneSaying
+one-saying W H s room r r′ after after′ p q =
+    let e : r .refused ≡ r′ .refused = p .refused ∙ sym (q .refused) in
+    let f : r .end ≡ r′ .end = p .text .next ∙ sym (q .text .next) in
+    (ap (λ t. sayingOf t (r .end)) e ∙ ap (sayingOf (r′ .refused)) f, p .text .held ∙ sym (q .text .held))

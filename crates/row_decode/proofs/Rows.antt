@@ -17,6 +17,12 @@ use Rattle.row_piece.proofs.Clips.{clip}
 use Rattle.row_control.specs.Controls.{controlOf, wholeFrom}
 use Rattle.row_fill.specs.Fills.{Filled}
 
+-- as many zeros as the row has bytes are a row of zeros
+pub blank-row : (row row′ : List ℕ) (n : ℕ) → n ≡ length row → row′ ≡ replicate (min n (length row)) 0 ++ drop n row → row′ ≡ replicate (length row) 0
+blank-row row row′ n e h =
+    let m : min n (length row) ≡ length row = omega arith in
+    h ∙ rw (m, e, drop-length row, append-nil)
+
 module _ (method : ℕ) (s row row′ : List ℕ) (w : ℕ) (t : Bool) (h : t ≡ isWhole (controlOf method) (Ready 0) s) where
   -- a whole payload changes the row
   pub whole-row : t ≡ true → row′ ≡ changed (controlOf method) (Ready 0) row s → Made (byControl (controlOf method) w row s) true row′

@@ -6,14 +6,22 @@ ghost use lib.ListN.{length};
 ghost use Rattle.rules.specs.Rows.{byControl, decoded, zeroRow};
 ghost use Rattle.row_control.specs.Controls.{controlOf};
 ghost use Rattle.row_decode.specs.Decoding.{Decoded, Made};
+use common::clear;
 use common::least;
 use row_change::change;
 use row_control::look;
 use row_control::look_from;
 use row_fill::fill_row;
-use row_piece::clear;
 use row_piece::clear_from;
 use row_piece::copy;
+
+// A damaged row: zeros in all of it.
+fn blank(row: &mut [u8])
+    ensures { λ _. ⌜ now (row .exit) ≡ zeroRow (length (now (row .entry))) ⌝ }
+{
+    let n = row.len();
+    clear(row, n);
+}
 
 // Method 1: a payload of pairs is whole, whatever they are.
 fn by_pairs(s: &[u8], row: &mut [u8]) -> bool
@@ -24,7 +32,7 @@ fn by_pairs(s: &[u8], row: &mut [u8]) -> bool
         fill_row(1, s, row);
         true
     } else {
-        clear(row);
+        blank(row);
         false
     }
 }
@@ -38,7 +46,7 @@ fn by_packed(s: &[u8], row: &mut [u8]) -> bool
     if look_from(2, s, i) {
         true
     } else {
-        clear(row);
+        blank(row);
         false
     }
 }
@@ -52,7 +60,7 @@ fn by_changes(s: &[u8], row: &mut [u8]) -> bool
         change(s, row);
         true
     } else {
-        clear(row);
+        blank(row);
         false
     }
 }

@@ -38,14 +38,6 @@ fn fill(row: &mut [u8], at: usize, n: usize, b: u8)
     }
 }
 
-// Zeros in all the row.
-pub fn clear(row: &mut [u8])
-    ensures { λ _. ⌜ now (row .exit) ≡ replicate (length (now (row .entry))) 0 ⌝ }
-{
-    let n = row.len();
-    fill(row, 0, n, 0);
-}
-
 // Zeros in the row from a place on.
 pub fn clear_from(row: &mut [u8], at: usize)
     ensures { λ _. ⌜ now (row .exit) ≡ sets (now (row .entry)) at (replicate (length (now (row .entry))) 0) ⌝ }

@@ -9,12 +9,13 @@ use lib.Dec.{eqb, leb}
 use lib.ListN.{length, getD, take, drop, length-append}
 use lib.Seq.{take-suc, take-all, getD-drop}
 use borrow.Author.Tests.{leb-true, eqb-true}
+use Rattle.common.specs.Choice.{flagged}
 use Rattle.common.proofs.Choices.{and-true}
 use Rattle.rules.specs.declared.Measure.{Measure}
 use Rattle.rules.specs.declared.Spot.{Spot}
 use Rattle.rules.specs.Measure.{LW, LH, origin}
 use Rattle.rules.specs.Sound.{inPage, allInPage, allFree}
-use Rattle.state_load.specs.Kept.{u32At, spotAt, table, flag, spotBytes, stackBytes}
+use Rattle.state_load.specs.Kept.{u32At, spotAt, table, spotBytes, stackBytes}
 
 -- ---- numbers
 -- four bytes of a number below 2^32 are the number
@@ -36,11 +37,11 @@ two-back n h =
     omega (arith, a, d)
 
 -- a flag
-pub flag-back : (t : Bool) → not (eqb (flag t) 0) ≡ t
+pub flag-back : (t : Bool) → not (eqb (flagged t) 0) ≡ t
 flag-back true = refl
 flag-back false = refl
 
-pub flag-small : (t : Bool) → leb (flag t) 1 ≡ true
+pub flag-small : (t : Bool) → leb (flagged t) 1 ≡ true
 flag-small true = refl
 flag-small false = refl
 

@@ -8,7 +8,7 @@ use lib.Dec.{leb, ltb}
 use lib.ListN.{length, getD, take, drop, length-append, List·getD-append}
 use lib.Seq.{sets, sets-eq, length-sets, getD-drop, drop-at}
 use borrow.Author.Tests.{le-leb, leb-true, not-false}
-use Rattle.common.specs.Choice.{within}
+use Rattle.common.specs.Choice.{within, flagged}
 use Rattle.common.proofs.Choices.{choice, choice-by, and-true, and-false-left, and-false-right, within-bounds, oneOf-bounds}
 use Rattle.rules.specs.declared.Measure.{Measure}
 use Rattle.rules.specs.declared.Sequence.{Sequence}
@@ -27,10 +27,10 @@ use Rattle.theorems.proofs.Measures.{allowed-gives}
 use Rattle.theorems.proofs.Runs.{run-shaped}
 use Rattle.theorems.proofs.Sound.{state-facts}
 use Rattle.theorems.proofs.Theorems.{calls-keep-sound}
-use Rattle.state_load.specs.Kept.{u64At, spotAt, stackAt, seedAt, layoutAt, rasterAt, coreAt, isState, sequenceAt, stateAt, spotBytes, stackBytes, flag, lengthBytes, modeBytes, depthBytes, frontBytes, stateBytes}
+use Rattle.state_load.specs.Kept.{u64At, spotAt, stackAt, seedAt, layoutAt, rasterAt, coreAt, stateTakes, isState, sequenceAt, stateAt, spotBytes, stackBytes, lengthBytes, modeBytes, depthBytes, frontBytes, stateBytes}
 use Rattle.state_load.proofs.Tables.{spot-is, table-length}
 use Rattle.state_load.proofs.Parts.{layout-is, raster-is, core-is, state-is, open-first}
-use Rattle.state_laws.specs.Statements.{StateIsReadBack, StateTakes808, NoStateIsRefused, CallsGoOn}
+use Rattle.state_laws.specs.Statements.{StateIsReadBack, StateTakesItsBytes, NoStateIsRefused, CallsGoOn}
 use Rattle.state_laws.proofs.Bytes.{four-back, two-back, flag-back, flag-small, table-whole, AllFit, stack-fit, stack-length, stack-back, spot-drop}
 
 -- a state's bytes, with a and b for its sequence and more behind them
@@ -39,7 +39,7 @@ bytes c m a b tail =
     spotBytes (c .at)
     ++ (lengthBytes (c .layout) (c .raster)
     ++ (modeBytes (c .raster .resolution) (c .layout .termination) m
-    ++ ((flag (c .raster .started) ∷ flag (c .used) ∷ [])
+    ++ ((flagged (c .raster .started) ∷ flagged (c .used) ∷ [])
     ++ ((a ∷ b ∷ []) ++ depthBytes (c .depth)))))
     ++ (stackBytes (c .stack) ++ (c .seed ++ tail))
 
@@ -109,17 +109,17 @@ module _ (g : Measure) (wide : LW g ≤ 115200) (high : LH g ≤ 163200) (c : Co
       at-back layout-back raster-back (sym (flag-back (c .used))) depth-back places-back seed-back
 
   -- bytes that were written may be a state
-  method-back : 808 ≤ length all → m ≡ cond (isState all) (getD all 35 0) 255
-  method-back k = rw (le-leb 808 (length all) k, flag-small (c .raster .started), flag-small (c .used))
+  method-back : stateTakes ≤ length all → m ≡ cond (isState all) (getD all 35 0) 255
+  method-back k = rw (le-leb stateTakes (length all) k, flag-small (c .raster .started), flag-small (c .used))
 
   -- and are read as it, where its sequence is read as it was
-  state-back : (q : Sequence) → 808 ≤ length all → q ≡ sequenceAt all → stateAt all ≡ stateOf c (besideOf m) q
+  state-back : (q : Sequence) → stateTakes ≤ length all → q ≡ sequenceAt all → stateAt all ≡ stateOf c (besideOf m) q
   state-back q k e = sym (state-is all c m q core-back (method-back k) e)
 
 -- ---- the state
 module _ (g : Measure) (wide : LW g ≤ 115200) (high : LH g ≤ 163200) (c : Core) (h : SoundCore g c) (s : Shaped c) (m : ℕ) (tail : List ℕ) where
   -- a sound sequence has a first byte that is not 0
-  kept-back : (q : Sequence) → sequenceSound q ≡ true → 808 ≤ length (stateBytes (stateOf c (besideOf m) q) ++ tail)
+  kept-back : (q : Sequence) → sequenceSound q ≡ true → stateTakes ≤ length (stateBytes (stateOf c (besideOf m) q) ++ tail)
       → stateAt (stateBytes (stateOf c (besideOf m) q) ++ tail) ≡ stateOf c (besideOf m) q
   unfolding stateBytes frontBytes sequenceSound
   kept-back Closed e k =
@@ -135,29 +135,29 @@ unfolding frontBytes
 front-length c m Closed = refl
 front-length c m (Open f o) = refl
 
-state-length : (t : State) → Shaped (t .core) → length (stateBytes t) ≡ 808
+state-length : (t : State) → Shaped (t .core) → length (stateBytes t) ≡ stateTakes
 unfolding stateBytes
 state-length t s =
     let l = stackBytes (t .core .stack) in
     length-append (frontBytes t) (l ++ t .core .seed)
     ∙ rw (front-length (t .core) (t .beside .method) (t .sequence), length-append l (t .core .seed), stack-length (t .core .stack), s .0, s .1)
 
-pub state-takes-808 : StateTakes808
-state-takes-808 t s = record { size = size; behind = behind }
+pub state-takes-its-bytes : StateTakesItsBytes
+state-takes-its-bytes t s = record { size = size; behind = behind }
   where
-    size : length (stateBytes t) ≡ 808
+    size : length (stateBytes t) ≡ stateTakes
     size = state-length t s
 
-    behind : (b : List ℕ) → 808 ≤ length b → sets b 0 (stateBytes t) ≡ stateBytes t ++ drop 808 b
+    behind : (b : List ℕ) → stateTakes ≤ length b → sets b 0 (stateBytes t) ≡ stateBytes t ++ drop stateTakes b
     behind b h = sets-eq (stateBytes t) b 0 (omega (arith, size)) ∙ rw size
 
 pub state-is-read-back : StateIsReadBack
 state-is-read-back W H t b a e s h =
     let w = allowed-gives W H a in
     let f = state-facts (measureOf W H) t e in
-    let k : 808 ≤ length (sets b 0 (stateBytes t)) = rw (length-sets b 0 (stateBytes t)) h in
-    let z = state-takes-808 t s .behind b h in
-    rw z (kept-back (measureOf W H) (w .widest) (w .highest) (t .core) (f .core) s (t .beside .method) (drop 808 b) (t .sequence) (f .sequence) (rw z at k))
+    let k : stateTakes ≤ length (sets b 0 (stateBytes t)) = rw (length-sets b 0 (stateBytes t)) h in
+    let z = state-takes-its-bytes t s .behind b h in
+    rw z (kept-back (measureOf W H) (w .widest) (w .highest) (t .core) (f .core) s (t .beside .method) (drop stateTakes b) (t .sequence) (f .sequence) (rw z at k))
 
 pub no-state-is-refused : NoStateIsRefused
 unfolding sound stateAt
@@ -171,13 +171,13 @@ unfolding stateAt
 read-shaped b = (table-length 600 (λ i. getD b (208 + i) 0), table-length 20 (λ i. spotAt b (48 + 8 * i)))
 
 -- bytes that are read as a sound state are enough
-sound-enough : (g : Measure) (b : List ℕ) → sound g (stateAt b) ≡ true → 808 ≤ length b
+sound-enough : (g : Measure) (b : List ℕ) → sound g (stateAt b) ≡ true → stateTakes ≤ length b
 sound-enough g b e = go (isState b) refl
   where
-    go : (x : Bool) → isState b ≡ x → 808 ≤ length b
+    go : (x : Bool) → isState b ≡ x → stateTakes ≤ length b
     go true f =
-        let p = and-true (leb 808 (length b) && leb (getD b 36 0) 1) (leb (getD b 37 0) 1) f in
-        leb-true 808 (length b) (and-true (leb 808 (length b)) (leb (getD b 36 0) 1) (p .0) .0)
+        let p = and-true (leb stateTakes (length b) && leb (getD b 36 0) 1) (leb (getD b 37 0) 1) f in
+        leb-true stateTakes (length b) (and-true (leb stateTakes (length b)) (leb (getD b 36 0) 1) (p .0) .0)
     go false f = absurd (false≢true (sym (no-state-is-refused g b f) ∙ e))
 
 abbrev isCarried : Verdict → Bool

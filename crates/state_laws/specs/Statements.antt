@@ -12,20 +12,20 @@ use Rattle.rules.specs.Measure.{allowed, measureOf}
 use Rattle.rules.specs.Sound.{sound}
 use Rattle.rules.specs.Run.{answer}
 use Rattle.theorems.specs.Facts.{Shaped}
-use Rattle.state_load.specs.Kept.{isState, stateAt, stateBytes}
+use Rattle.state_load.specs.Kept.{stateTakes, isState, stateAt, stateBytes}
 
 -- Written and read again: a state that is sound on its page, written over any bytes, is what those bytes are read as.
 abbrev pub StateIsReadBack : Type 0
-StateIsReadBack = (W H : ℕ) (t : State) (b : List ℕ) → allowed W H ≡ true → sound (measureOf W H) t ≡ true → Shaped (t .core) → 808 ≤ length b
+StateIsReadBack = (W H : ℕ) (t : State) (b : List ℕ) → allowed W H ≡ true → sound (measureOf W H) t ≡ true → Shaped (t .core) → stateTakes ≤ length b
     → stateAt (sets b 0 (stateBytes t)) ≡ t
 
--- A state takes 808 bytes; those behind them stay.
-pub record Takes808 (t : State) : Type 0 where
-  pub size : length (stateBytes t) ≡ 808
-  pub behind : (b : List ℕ) → 808 ≤ length b → sets b 0 (stateBytes t) ≡ stateBytes t ++ drop 808 b
+-- A state takes as many bytes as are kept for it; those behind them stay.
+pub record TakesItsBytes (t : State) : Type 0 where
+  pub size : length (stateBytes t) ≡ stateTakes
+  pub behind : (b : List ℕ) → stateTakes ≤ length b → sets b 0 (stateBytes t) ≡ stateBytes t ++ drop stateTakes b
 
-abbrev pub StateTakes808 : Type 0
-StateTakes808 = (t : State) → Shaped (t .core) → Takes808 t
+abbrev pub StateTakesItsBytes : Type 0
+StateTakesItsBytes = (t : State) → Shaped (t .core) → TakesItsBytes t
 
 -- Bytes that are no state are read as one that is sound on no page: a call that is handed them is refused, by 13 if by nothing before it.
 abbrev pub NoStateIsRefused : Type 0

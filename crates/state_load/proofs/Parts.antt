@@ -15,7 +15,7 @@ use Rattle.rules.specs.declared.Sequence.{Sequence}
 use Rattle.rules.specs.declared.Sequence.the-variants.{Closed, Open}
 use Rattle.rules.specs.declared.Core.{Core}
 use Rattle.rules.specs.States.{besideOf, stateOf}
-use Rattle.state_load.specs.Kept.{u32At, u64At, spotAt, stackAt, seedAt, layoutAt, rasterAt, coreAt, isState, sequenceAt, stateAt}
+use Rattle.state_load.specs.Kept.{u32At, u64At, spotAt, stackAt, seedAt, layoutAt, rasterAt, coreAt, stateTakes, isState, sequenceAt, stateAt}
 
 module _ (b : List ℕ) where
   pub layout-is : (l r t h v e : ℕ) → l ≡ u32At b 8 → r ≡ u32At b 12 → t ≡ u32At b 16 → h ≡ u32At b 20 → v ≡ u32At b 24 → e ≡ getD b 34 0
@@ -34,16 +34,16 @@ module _ (b : List ℕ) where
   state-is c m q c′ m′ q′ = rw (c′, m′, q′)
 
   -- too few bytes
-  pub few : length b < 808 → false ≡ isState b
-  few h = rw (lt-leb 808 (length b) h)
+  pub few : length b < stateTakes → false ≡ isState b
+  few h = rw (lt-leb stateTakes (length b) h)
 
   -- a first flag that is none
-  pub unflagged : (n : ℕ) → 808 ≤ length b → n ≡ getD b 36 0 → 1 < n → false ≡ isState b
-  unflagged n h e k = rw (le-leb 808 (length b) h, ← e, lt-leb n 1 k)
+  pub unflagged : (n : ℕ) → stateTakes ≤ length b → n ≡ getD b 36 0 → 1 < n → false ≡ isState b
+  unflagged n h e k = rw (le-leb stateTakes (length b) h, ← e, lt-leb n 1 k)
 
   -- all rests with the second
-  pub flagged : (n m : ℕ) → 808 ≤ length b → n ≡ getD b 36 0 → n ≤ 1 → m ≡ getD b 37 0 → leb m 1 ≡ isState b
-  flagged n m h e k f = rw (le-leb 808 (length b) h, ← e, le-leb n 1 k, ← f)
+  pub both-flags : (n m : ℕ) → stateTakes ≤ length b → n ≡ getD b 36 0 → n ≤ 1 → m ≡ getD b 37 0 → leb m 1 ≡ isState b
+  both-flags n m h e k f = rw (le-leb stateTakes (length b) h, ← e, le-leb n 1 k, ← f)
 
   -- no sequence is open
   pub closed-is : (first group : ℕ) → first ≡ getD b 38 0 → group ≡ getD b 39 0 → first ≡ 0 → group ≡ 0 → Closed ≡ sequenceAt b

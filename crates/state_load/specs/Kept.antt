@@ -4,6 +4,7 @@ use mathlib.Core.Bool.{Bool, cond, not, _&&_}
 use mathlib.Core.List.{List, [], _∷_, _++_}
 use lib.Dec.{eqb, leb}
 use lib.ListN.{length, getD}
+use Rattle.common.specs.Choice.{flagged}
 use Rattle.rules.specs.declared.Spot.{Spot}
 use Rattle.rules.specs.declared.Layout.{Layout}
 use Rattle.rules.specs.declared.Raster.{Raster}
@@ -13,6 +14,10 @@ use Rattle.rules.specs.declared.Core.{Core}
 use Rattle.rules.specs.declared.State.{State}
 use Rattle.rules.specs.Measure.{spot}
 use Rattle.rules.specs.States.{besideOf, stateOf}
+
+-- the bytes that a state takes
+abbrev pub stateTakes : ℕ
+stateTakes = 808
 
 -- ---- bytes read
 -- numbers of four bytes and of eight, the lowest byte first; a byte past the end is 0
@@ -55,7 +60,7 @@ coreAt b = record {
 
 -- bytes that a state may have: enough of them, and flags that are 0 or 1
 abbrev pub isState : List ℕ → Bool
-isState b = leb 808 (length b) && leb (getD b 36 0) 1 && leb (getD b 37 0) 1
+isState b = leb stateTakes (length b) && leb (getD b 36 0) 1 && leb (getD b 37 0) 1
 
 -- two zeros: no sequence is open
 abbrev pub sequenceAt : List ℕ → Sequence
@@ -75,9 +80,6 @@ spotBytes p = four (p .x) ++ four (p .y)
 unfoldable pub stackBytes : List Spot → List ℕ
 stackBytes [] = []
 stackBytes (p ∷ l) = spotBytes p ++ stackBytes l
-
-abbrev pub flag : Bool → ℕ
-flag t = cond t 1 0
 
 -- the lengths, from L to the graphics margin
 abbrev pub lengthBytes : Layout → Raster → List ℕ
@@ -101,7 +103,7 @@ frontBytes t =
     spotBytes (t .core .at)
     ++ (lengthBytes (t .core .layout) (t .core .raster)
     ++ (modeBytes (t .core .raster .resolution) (t .core .layout .termination) (t .beside .method)
-    ++ ((flag (t .core .raster .started) ∷ flag (t .core .used) ∷ [])
+    ++ ((flagged (t .core .raster .started) ∷ flagged (t .core .used) ∷ [])
     ++ (sequenceBytes (t .sequence) ++ depthBytes (t .core .depth)))))
 
 unfoldable pub stateBytes : State → List ℕ

@@ -1,4 +1,4 @@
-// A state kept between calls as 808 bytes at fixed offsets, numbers little-endian, for callers that are not Rattle: read.
+// A state kept between calls as bytes at fixed offsets, numbers little-endian, for callers that are not Rattle: read.
 // Any bytes are read. Those that are no state, because they are too few or a flag is neither 0 nor 1, are read as a state
 // whose row method is 255: no such state is sound. Nothing is refused.
 ghost use mathlib.Core.Path.{_≡_};
@@ -6,7 +6,7 @@ ghost use mathlib.Core.Bool.{cond, not};
 ghost use Prim.Native.Nat.{_+_, _*_, _≤_};
 ghost use lib.Dec.{eqb};
 ghost use lib.ListN.{getD};
-ghost use Rattle.state_load.specs.Kept.{u32At, u64At, spotAt, layoutAt, rasterAt, stackAt, seedAt, coreAt, isState, sequenceAt, stateAt};
+ghost use Rattle.state_load.specs.Kept.{u32At, u64At, spotAt, layoutAt, rasterAt, stackAt, seedAt, coreAt, isState, sequenceAt, stateTakes, stateAt};
 use common::byte_at;
 use common::wide;
 use rules::Beside;
@@ -17,9 +17,12 @@ use rules::Sequence;
 use rules::Spot;
 use rules::State;
 
+// The bytes that a state takes: ROV_STATE.
+pub const STATE_BYTES: usize = 808;
+
 // Two bytes as a number.
 fn u16_at(b: &[u8], at: usize) -> usize
-    requires { ⌜ at ≤ 808 ⌝ }
+    requires { ⌜ at + 2 ≤ stateTakes ⌝ }
     ensures { λ r. ⌜ (r ≡ getD (now (b .entry)) at 0 + 256 * getD (now (b .entry)) (at + 1) 0) × (r ≤ 65535) ⌝ }
 {
     wide(byte_at(b, at)) + 256 * wide(byte_at(b, at + 1))
@@ -27,7 +30,7 @@ fn u16_at(b: &[u8], at: usize) -> usize
 
 // Four bytes as a number.
 fn u32_at(b: &[u8], at: usize) -> u32
-    requires { ⌜ at ≤ 804 ⌝ }
+    requires { ⌜ at + 4 ≤ stateTakes ⌝ }
     ensures { λ r. ⌜ r ≡ u32At (now (b .entry)) at ⌝ }
 {
     let low = u16_at(b, at);
@@ -37,7 +40,7 @@ fn u32_at(b: &[u8], at: usize) -> u32
 
 // Eight bytes as a number.
 fn u64_at(b: &[u8], at: usize) -> usize
-    requires { ⌜ at ≤ 800 ⌝ }
+    requires { ⌜ at + 8 ≤ stateTakes ⌝ }
     ensures { λ r. ⌜ r ≡ u64At (now (b .entry)) at ⌝ }
 {
     let low = u32_at(b, at) as usize;
@@ -47,7 +50,7 @@ fn u64_at(b: &[u8], at: usize) -> usize
 
 // A place on the page.
 fn spot_at(b: &[u8], at: usize) -> Spot
-    requires { ⌜ at ≤ 800 ⌝ }
+    requires { ⌜ at + 8 ≤ stateTakes ⌝ }
     ensures { λ r. ⌜ r ≡ spotAt (now (b .entry)) at ⌝ }
 {
     let x = u32_at(b, at);
@@ -149,7 +152,7 @@ fn core_at(b: &[u8]) -> Core
 fn is_state(b: &[u8]) -> bool
     ensures { λ r. ⌜ r ≡ isState (now (b .entry)) ⌝ }
 {
-    if b.len() < 808 {
+    if b.len() < STATE_BYTES {
         return false;
     }
     if 1 < byte_at(b, 36) {

@@ -5,13 +5,14 @@ use Prim.Native.Nat.{ℕ, suc, _+_, _≤_, _<_}
 use native.Mathlib.Omega.{arith}
 use lib.ListN.{length, getD, take}
 use lib.Seq.{sets, take-suc, take-all}
+use Rattle.common.specs.Choice.{flagged}
 use Rattle.common.specs.Stores.{Wrote}
 use Rattle.common.proofs.Stores.{wrote-both}
 use Rattle.rules.specs.declared.Spot.{Spot}
 use Rattle.rules.specs.declared.Sequence.{Sequence}
 use Rattle.rules.specs.declared.Sequence.the-variants.{Closed, Open}
 use Rattle.rules.specs.declared.State.{State}
-use Rattle.state_load.specs.Kept.{four, spotBytes, stackBytes, flag, lengthBytes, modeBytes, sequenceBytes, depthBytes, frontBytes, stateBytes}
+use Rattle.state_load.specs.Kept.{four, spotBytes, stackBytes, lengthBytes, modeBytes, sequenceBytes, depthBytes, frontBytes, stateBytes}
 
 -- four bytes, one behind the other
 pub wrote-four : {l l1 l2 l3 l4 : List ℕ} {at n1 n2 n3 r : ℕ} (a b c d : ℕ) → Wrote l at (a ∷ []) l1 n1 → Wrote l1 n1 (b ∷ []) l2 n2 → Wrote l2 n2 (c ∷ []) l3 n3 → Wrote l3 n3 (d ∷ []) l4 r
@@ -41,7 +42,7 @@ wrote-closed q e p s = rw e (wrote-both p s)
 
 -- what stands before the stack
 pub wrote-front : {l l1 l2 l3 l4 l5 l6 : List ℕ} {n1 n2 n3 n4 n5 r : ℕ} (t : State) → Wrote l 0 (spotBytes (t .core .at)) l1 n1 → Wrote l1 n1 (lengthBytes (t .core .layout) (t .core .raster)) l2 n2
-    → Wrote l2 n2 (modeBytes (t .core .raster .resolution) (t .core .layout .termination) (t .beside .method)) l3 n3 → Wrote l3 n3 (flag (t .core .raster .started) ∷ flag (t .core .used) ∷ []) l4 n4
+    → Wrote l2 n2 (modeBytes (t .core .raster .resolution) (t .core .layout .termination) (t .beside .method)) l3 n3 → Wrote l3 n3 (flagged (t .core .raster .started) ∷ flagged (t .core .used) ∷ []) l4 n4
     → Wrote l4 n4 (sequenceBytes (t .sequence)) l5 n5 → Wrote l5 n5 (depthBytes (t .core .depth)) l6 r → Wrote l 0 (frontBytes t) l6 r
 unfolding frontBytes
 wrote-front t p q s u v w = wrote-both p (wrote-both q (wrote-both s (wrote-both u (wrote-both v w))))

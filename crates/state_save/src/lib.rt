@@ -1,12 +1,14 @@
-// A state kept between calls as 808 bytes at fixed offsets, numbers little-endian, for callers that are not Rattle: written.
+// A state kept between calls as bytes at fixed offsets, numbers little-endian, for callers that are not Rattle: written.
 // Nothing is refused: what has no room is not written.
 ghost use mathlib.Core.Path.{_≡_};
 ghost use mathlib.Core.List.{[], _∷_, _++_};
 ghost use Prim.Native.Nat.{_≤_};
 ghost use lib.ListN.{length};
 ghost use lib.Seq.{sets};
+ghost use Rattle.common.specs.Choice.{flagged};
 ghost use Rattle.common.specs.Stores.{Wrote};
-ghost use Rattle.state_load.specs.Kept.{four, spotBytes, stackBytes, flag, lengthBytes, modeBytes, sequenceBytes, depthBytes, frontBytes, stateBytes};
+ghost use Rattle.state_load.specs.Kept.{four, spotBytes, stackBytes, lengthBytes, modeBytes, sequenceBytes, depthBytes, frontBytes, stateBytes};
+use common::flag;
 use number_write::put_byte;
 use rules::Layout;
 use rules::Raster;
@@ -49,13 +51,6 @@ fn put_lengths(l: Layout, r: Raster, room: &mut [u8], at: usize) -> usize
     put_two(l.vmi, r.margin, room, third)
 }
 
-// A flag as 0 or 1.
-fn flag_of(t: bool) -> u8
-    ensures { λ r. ⌜ r ≡ flag t ⌝ }
-{
-    if t { 1 } else { 0 }
-}
-
 // Resolution, line termination and row method.
 fn put_modes(resolution: u16, termination: u8, method: u8, room: &mut [u8], at: usize) -> usize
     ensures { λ r. ⌜ Wrote (now (room .entry)) at (modeBytes resolution termination method) (now (room .exit)) r ⌝ }
@@ -68,10 +63,10 @@ fn put_modes(resolution: u16, termination: u8, method: u8, room: &mut [u8], at: 
 
 // Raster started, page used.
 fn put_flags(started: bool, used: bool, room: &mut [u8], at: usize) -> usize
-    ensures { λ r. ⌜ Wrote (now (room .entry)) at (flag started ∷ flag used ∷ []) (now (room .exit)) r ⌝ }
+    ensures { λ r. ⌜ Wrote (now (room .entry)) at (flagged started ∷ flagged used ∷ []) (now (room .exit)) r ⌝ }
 {
-    let next = put_byte(flag_of(started), room, at);
-    put_byte(flag_of(used), room, next)
+    let next = put_byte(flag(started) as u8, room, at);
+    put_byte(flag(used) as u8, room, next)
 }
 
 // The first and the group byte of the open sequence, 0 and 0 for none.

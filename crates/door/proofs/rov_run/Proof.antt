@@ -14,8 +14,8 @@ run-requires c κs = search (none-known, needs)
 finding-number-requires : tie.Need-finding-number-requires
 finding-number-requires c κs = search needs
 
-flag-of-requires : tie.Need-flag-of-requires
-flag-of-requires c κs = search needs
+flag-requires : tie.Need-flag-requires
+flag-requires c κs = search needs
 
 give-back-requires : tie.Need-give-back-requires
 give-back-requires c κs = search needs
@@ -39,7 +39,7 @@ rov-run-spec =
     read-state-requires
     run-requires
     finding-number-requires
-    flag-of-requires
+    flag-requires
     give-back-requires
     verdict-number-requires
     same-length

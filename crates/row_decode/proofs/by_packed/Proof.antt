@@ -10,8 +10,8 @@ fill-row-requires c κs = search needs
 look-from-requires : tie.Need-look-from-requires
 look-from-requires c κs = search needs
 
-clear-requires : tie.Need-clear-requires
-clear-requires c κs = search needs
+blank-requires : tie.Need-blank-requires
+blank-requires c κs = search needs
 
 same-length : tie.Need-same-length
 same-length c = search needs
@@ -31,7 +31,7 @@ by-packed-spec =
     (tie.spec
     fill-row-requires
     look-from-requires
-    clear-requires
+    blank-requires
     same-length
     returns
     same-length-2

@@ -4,14 +4,20 @@ use borrow.Author.Needs.{needs}
 use Rattle.state_save.proofs.put_flags.Statement.{statement}
 use Rattle.state_save.proofs.put_flags.Tie as tie
 
-flag-of-requires : tie.Need-flag-of-requires
-flag-of-requires c κs = search needs
+flag-requires : tie.Need-flag-requires
+flag-requires c κs = search needs
+
+cast-put-byte : tie.Need-cast-put-byte
+cast-put-byte c = search needs
 
 put-byte-requires : tie.Need-put-byte-requires
 put-byte-requires c κs = search needs
 
-flag-of-requires-2 : tie.Need-flag-of-requires-2
-flag-of-requires-2 c κs = search needs
+flag-requires-2 : tie.Need-flag-requires-2
+flag-requires-2 c κs = search needs
+
+cast-put-byte-2 : tie.Need-cast-put-byte-2
+cast-put-byte-2 c = search needs
 
 put-byte-requires-2 : tie.Need-put-byte-requires-2
 put-byte-requires-2 c κs = search needs
@@ -26,9 +32,11 @@ pub put-flags-spec : {M : Type 1} → statement M
 put-flags-spec =
     tie.close
     (tie.spec
-    flag-of-requires
+    flag-requires
+    cast-put-byte
     put-byte-requires
-    flag-of-requires-2
+    flag-requires-2
+    cast-put-byte-2
     put-byte-requires-2
     same-length
     returns)
