@@ -1,10 +1,13 @@
 -- What a command changes, apart from the rest of the core.
 use mathlib.Core.Path.{_≡_}
-use mathlib.Core.Bool.{cond}
+use mathlib.Core.Bool.{false, cond}
+use mathlib.Core.List.{[]}
 use Prim.{Unit}
 use Prim.Native.Nat.{ℕ, _≤_, _<_}
+use lib.Dec.{eqb}
 use Rattle.rules.specs.declared.Measure.{Measure}
 use Rattle.rules.specs.declared.Kind.{Kind}
+use Rattle.rules.specs.declared.Kind.the-variants.{Column, DecipointAcross, DotAcross, DecipointDown, DotDown, Line, LeftMargin, RightMargin, TopMargin, Vmi, LinesPerInch, Hmi, Termination, PushPop, Resolution, StartRaster, EndRaster, ResetRaster, SkipRows}
 use Rattle.rules.specs.declared.Value.{Value}
 use Rattle.rules.specs.declared.Spot.{Spot}
 use Rattle.rules.specs.declared.Layout.{Layout}
@@ -14,12 +17,47 @@ use Rattle.rules.specs.declared.Beside.{Beside}
 use Rattle.rules.specs.declared.Finding.{Finding}
 use Rattle.rules.specs.declared.Finding.the-variants.{Nothing}
 use Rattle.rules.specs.Measure.{stackHolds}
+use Rattle.rules.specs.Number.{wholePart}
 use Rattle.rules.specs.Findings.{isClean}
 use Rattle.rules.specs.States.{withAt, withLayout, withRaster, withSeed, zeroSeed, besideOf}
 use Rattle.rules.specs.Effects.{pushed, popped, barred, effect}
 use Rattle.rules.specs.Acts.{order, besideAfter}
 use Rattle.do_change.specs.declared.Change.{Change}
 use Rattle.do_change.specs.declared.Change.the-variants.{To, Laid, Drawn, Fresh, Reset, Pushed, Popped, Barred}
+
+-- a core of this cursor, layout, raster state and depth, which are all that a command with a value looks at but for a pop
+abbrev pub bare : Spot → Layout → Raster → ℕ → Core
+bare p l q n = record { at = p; layout = l; raster = q; used = false; depth = n; stack = []; seed = [] }
+
+-- the change that a command makes which nothing bars, where c is the core behind it: the part of the core that it can change
+unfoldable pub changeBy : Kind → Value → Core → Change
+changeBy Column v c = To (c .at)
+changeBy DecipointAcross v c = To (c .at)
+changeBy DotAcross v c = To (c .at)
+changeBy DecipointDown v c = To (c .at)
+changeBy DotDown v c = To (c .at)
+changeBy Line v c = To (c .at)
+changeBy LeftMargin v c = Laid (c .at) (c .layout)
+changeBy RightMargin v c = Laid (c .at) (c .layout)
+changeBy TopMargin v c = Laid (c .at) (c .layout)
+changeBy Vmi v c = Laid (c .at) (c .layout)
+changeBy LinesPerInch v c = Laid (c .at) (c .layout)
+changeBy Hmi v c = Laid (c .at) (c .layout)
+changeBy Termination v c = Laid (c .at) (c .layout)
+changeBy PushPop v c = cond (eqb (wholePart v) 0) Pushed Popped
+changeBy Resolution v c = Drawn (c .raster)
+changeBy StartRaster v c = Fresh (c .raster)
+changeBy EndRaster v c = Drawn (c .raster)
+changeBy ResetRaster v c = Reset (c .raster)
+changeBy SkipRows v c = To (c .at)
+
+-- what a command changes where the cursor is at p, the layout is l, the raster state is q and n places are on the stack; a command that is barred
+-- changes nothing
+unfoldable pub changeOf : Measure → Kind → Value → Spot → Layout → Raster → ℕ → Change
+changeOf g k v p l q n =
+    let c = bare p l q n in
+    let f = barred g k v c in
+    cond (isClean f) (changeBy k v (effect g k v c)) (Barred f)
 
 -- the core with a change made to it
 abbrev pub made : Change → Core → Core
@@ -75,7 +113,3 @@ pub record Goes (g : Measure) (k : Kind) (v : Value) (d : Change) (c : Core) : T
   pub aside : (w : Value) (m : Beside) → cond (isClean (foundBy d)) (besideAfter (order k w) m) m ≡ methodBy d m
   -- the stack has the place
   pub placed : Placed d (c .depth)
-
--- what is told of a command where the cursor is at p, the layout is l, the raster state is q and n places are on the stack
-abbrev pub Changed : Measure → Kind → Value → Spot → Layout → Raster → ℕ → Change → Type 0
-Changed g k v p l q n d = (c : Core) → p ≡ c .at → l ≡ c .layout → q ≡ c .raster → n ≡ c .depth → Goes g k v d c

@@ -1,20 +1,18 @@
 // Paper 01, "Commands": what a command with a value changes, apart from the rest of the core, which is large with its stack and its seed row and is not
-// handed over; who has it sets what is told. And the stack's own command, which is handed the number that the rules make of its value: its promise is for
-// each such value.
+// handed over; who has it sets what is told. And the stack's own command.
 ghost use mathlib.Core.Path.{_≡_};
-ghost use Prim.Native.Nat.{_≤_};
 ghost use Rattle.rules.specs.declared.Measure.{Measure};
-ghost use Rattle.rules.specs.declared.Value.{Value};
 ghost use Rattle.rules.specs.declared.Spot.{Spot};
 ghost use Rattle.rules.specs.declared.Layout.{Layout};
 ghost use Rattle.rules.specs.declared.Raster.{Raster};
 ghost use Rattle.rules.specs.declared.Kind.the-variants.{PushPop};
-ghost use Rattle.rules.specs.Number.{wholePart};
-ghost use Rattle.do_change.specs.Changed.{Changed};
+ghost use Rattle.do_change.specs.Changed.{changeOf};
+use do_value::whole_part;
 use rules::Finding;
 use rules::Layout;
 use rules::Raster;
 use rules::Spot;
+use rules::Value;
 
 // What a command changes, and nothing else.
 pub enum Change {
@@ -29,10 +27,10 @@ pub enum Change {
 }
 
 // &f#S: 0 push, 1 pop, else 4; 5 where the stack is full or empty.
-pub fn push_pop(n: u32, depth: usize) -> Change
-    requires { ⌜ depth ≤ 20 ⌝ }
-    ensures { λ r. ⌜ ((g : Measure) (v : Value) (p : Spot) (l : Layout) (q : Raster) → n ≡ wholePart v → Changed g PushPop v p l q depth r) ⌝ }
+pub fn push_pop(v: Value, depth: usize) -> Change
+    ensures { λ r. ⌜ ((g : Measure) (p : Spot) (l : Layout) (q : Raster) → r ≡ changeOf g PushPop v p l q depth) ⌝ }
 {
+    let n = whole_part(v);
     if n == 0 {
         if depth < 20 {
             return Change::Pushed;

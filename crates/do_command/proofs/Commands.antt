@@ -2,7 +2,7 @@
 use Prim.{tt}
 use mathlib.Core.Path.{_≡_, refl, sym, ap, _∙_}
 use mathlib.Core.Bool.{Bool, true, false, cond}
-use mathlib.Core.List.{List, []}
+use mathlib.Core.List.{List}
 use Prim.Native.Nat.{ℕ, _+_, _-_, _≤_, _<_}
 use native.Mathlib.Omega.{arith}
 use borrow.Author.Tests.{lt-leb, le-leb}
@@ -30,7 +30,8 @@ use Rattle.do_text.specs.Cursor.{TypedAll}
 use Rattle.do_change.specs.declared.Change.{Change}
 use Rattle.do_change.specs.declared.Change.the-variants.{To, Laid, Drawn, Fresh, Barred}
 use Rattle.do_change.specs.declared.Change.the-variants as change
-use Rattle.do_change.specs.Changed.{made, methodBy, foundBy, Placed, Changed}
+use Rattle.do_change.specs.Changed.{bare, changeOf, made, methodBy, foundBy, Placed, Goes}
+use Rattle.do_change.proofs.Changing.{change-goes}
 use Rattle.state_pen.specs.declared.Pen.{Pen}
 use Rattle.state_pen.specs.Pens.{coreOf}
 use Rattle.do_deed.specs.declared.Deed.{Deed}
@@ -65,12 +66,12 @@ module _ (g : Measure) (p : Pen) (m : Beside) where
   negative-deed k v r t e f h b s = nothing g p m (λ (c : Core). meanCommand g (Valued k v) s c m) NotAllowed r (λ c. rw (← e, f)) h b
 
   -- a command with a value, which makes its change
-  pub valued-deed : (k : Kind) (v u : Value) (d : Change) (b : List ℕ) (r : Deed) (b′ : List ℕ) (t : Bool) → t ≡ isNegative (useOf k) v → t ≡ false → u ≡ usedValue (useOf k) v → Changed g k u (p .at) (p .layout) (p .raster) (p .depth) d → MadeBy d p m b r b′
+  pub valued-deed : (k : Kind) (v u : Value) (d : Change) (b : List ℕ) (r : Deed) (b′ : List ℕ) (t : Bool) → t ≡ isNegative (useOf k) v → t ≡ false → u ≡ usedValue (useOf k) v → p .depth ≤ 20 → d ≡ changeOf g k u (p .at) (p .layout) (p .raster) (p .depth) → MadeBy d p m b r b′
       → (s : List ℕ) → DeedFor g (λ (c : Core). meanCommand g (Valued k v) s c m) p b r b′
-  valued-deed k v u d b r b′ t o e x h y s page = record {
+  valued-deed k v u d b r b′ t o e x n h y s page = record {
     acted = λ l.
         let c = coreOf p l b in
-        let z = h c refl refl refl refl in
+        let z : Goes g k u d c = rw h (change-goes g k u c n) in
         let a : made d c ≡ cond (isClean (barred g k u c)) (effect g k u c) c = rw (z .bar) (sym (z .there)) in
         rw (y .whole l) (valued-done g k v u c (made d c) m (methodBy d m) (foundBy d) t o e x (sym (z .bar)) a (λ w. sym (z .aside w m)) s page);
     placed = y .placed;
@@ -101,8 +102,8 @@ module _ (v : Value) (p : Pen) (m : Beside) (t : Bool) (o : t ≡ isNegative who
   method-deed n r e f k h g s b page = rw h (record { acted = λ l. method-done v (coreOf p l b) m t o n e f k g s page; placed = tt })
 
 -- the stack has the place that a change writes
-pub change-placed : (g : Measure) (k : Kind) (u : Value) (at : Spot) (l : Layout) (q : Raster) (n : ℕ) (d : Change) → Changed g k u at l q n d → Placed d n
-change-placed g k u at l q n d h = h (record { at = at; layout = l; raster = q; used = false; depth = n; stack = []; seed = [] }) refl refl refl refl .placed
+pub change-placed : (g : Measure) (k : Kind) (u : Value) (at : Spot) (l : Layout) (q : Raster) (n : ℕ) (d : Change) → n ≤ 20 → d ≡ changeOf g k u at l q n → Placed d n
+change-placed g k u at l q n d b h = rw h (change-goes g k u (bare at l q n) b .placed)
 
 -- ---- a change made
 module _ (p : Pen) (m : Beside) (d : Change) where
@@ -131,7 +132,7 @@ module _ (p : Pen) (m : Beside) (d : Change) where
       let z : (0 < p .depth) × (p .depth ≤ 20) = rw e at k in
       let i = z .0 in
       let j = z .1 in
-      rw (e, h) (record { whole = λ l. refl; placed = (omega arith, refl, refl) })
+      rw (e, h) (record { whole = λ l. refl; placed = (omega arith, refl, refl, refl) })
 
   pub made-barred : (f : Finding) (b : List ℕ) (r : Deed) → d ≡ Barred f → r ≡ deedOf p m f false Kept → MadeBy d p m b r b
   made-barred f b r e h = rw (e, h) (record { whole = λ l. refl; placed = tt })

@@ -54,6 +54,6 @@ module _ (p : Pen) (r : Deed) (k : OnStack (r .stacking) p r) where
   pub push-placed : r .stacking ≡ Pushed → (p .depth < stackHolds) × (r .finding ≡ Nothing) × (r .ended ≡ false)
   push-placed e = rw e at k
 
-  -- and so does a pop
-  pub pop-placed : r .stacking ≡ Popped → (r .pen .depth < stackHolds) × (r .finding ≡ Nothing) × (r .ended ≡ false)
+  -- and so does a pop, whose pen stays where it was
+  pub pop-placed : r .stacking ≡ Popped → (r .pen .depth < stackHolds) × (r .finding ≡ Nothing) × (r .ended ≡ false) × (r .pen .at ≡ p .at)
   pop-placed e = rw e at k

@@ -37,11 +37,11 @@ spotBy Pushed q l = q .at
 spotBy Popped q l = getD l (q .depth) origin
 spotBy Emptied q l = q .at
 
--- a push or a pop writes a place that the stack has, finds nothing and ends no page
+-- a push or a pop writes a place that the stack has, finds nothing and ends no page; the pen of a pop stays where it was, until the cursor is taken off
 abbrev pub OnStack : Stacking → Pen → Deed → Type 0
 OnStack Kept p r = Unit {0}
 OnStack Pushed p r = (p .depth < stackHolds) × (r .finding ≡ Nothing) × (r .ended ≡ false)
-OnStack Popped p r = (r .pen .depth < stackHolds) × (r .finding ≡ Nothing) × (r .ended ≡ false)
+OnStack Popped p r = (r .pen .depth < stackHolds) × (r .finding ≡ Nothing) × (r .ended ≡ false) × (r .pen .at ≡ p .at)
 OnStack Emptied p r = Unit {0}
 
 -- the pen of a deed with the cursor behind it

@@ -1,6 +1,6 @@
 -- What an item does, from what its bytes or its command do. Assumes nothing.
 use Prim.{tt}
-use mathlib.Core.Path.{_≡_, refl, sym}
+use mathlib.Core.Path.{_≡_, refl}
 use mathlib.Core.Bool.{false}
 use mathlib.Core.List.{List}
 use Prim.Native.Nat.{ℕ, _-_}
@@ -18,22 +18,21 @@ use Rattle.read_item.proofs.Item.{the-type}
 use Rattle.read_item.proofs.Items.{otherItems}
 use denote.Enum.Declared.{tagOf}
 use types.Run.{OneOf, miss}
-use Rattle.do_short.specs.Meant.{meanBytes}
+use Rattle.do_short.specs.Meant.{isCommand}
 use Rattle.rules.specs.declared.Command.{Command}
 use Rattle.state_pen.specs.declared.Pen.{Pen}
 use Rattle.do_deed.specs.declared.Deed.{Deed}
 use Rattle.do_deed.specs.declared.Stacking.the-variants.{Kept}
-use Rattle.do_deed.specs.Deeds.{deedOf, DeedOn, DeedFor}
-use Rattle.do_deed.proofs.Penned.{same-meaning, nothing}
+use Rattle.do_deed.specs.Deeds.{deedOf, DeedOn}
+use Rattle.do_deed.proofs.Penned.{nothing}
 
--- an item that is no command has the meaning of its bytes
-bytes-mean : (g : Measure) (s : List ℕ) (i : Item) (c : Core) (m : Beside) → OneOf otherItems (tagOf the-type i) → meanBytes g i c m ≡ mean g (itemIn s i) c m
-unfolding mean
-bytes-mean g s (found.Text b) c m h = refl
-bytes-mean g s (found.Code b) c m h = refl
-bytes-mean g s (found.Two b) c m h = refl
-bytes-mean g s (found.Command k from to) c m h = absurd (miss otherItems 3 tt h)
-bytes-mean g s (found.Broken f) c m h = refl
+-- what went the other way is no command
+pub no-command : (i : Item) → OneOf otherItems (tagOf the-type i) → isCommand i ≡ false
+no-command (found.Text b) h = refl
+no-command (found.Code b) h = refl
+no-command (found.Two b) h = refl
+no-command (found.Command k from to) h = absurd (miss otherItems 3 tt h)
+no-command (found.Broken f) h = refl
 
 module _ (g : Measure) (p : Pen) (m : Beside) where
   -- a command that a `match` has told
@@ -44,10 +43,6 @@ module _ (g : Measure) (p : Pen) (m : Beside) where
   pub command-unknown : (s : List ℕ) (k : Command) (b page : List ℕ) (r : Deed) → k ≡ Unknown → r ≡ deedOf p m NotCarried false Kept → DeedOn g (λ (c : Core). meanCommand g k s c m) p b page r b page
   unfolding meanCommand
   command-unknown s k b page r e h = rw e (nothing g p m (λ (c : Core). meanCommand g Unknown s c m) NotCarried r (λ c. refl) h b page)
-
-  -- what its bytes do, the item does
-  pub item-bytes : (s : List ℕ) (i : Item) (b : List ℕ) (r : Deed) (b′ page : List ℕ) → OneOf otherItems (tagOf the-type i) → DeedFor g (λ (c : Core). meanBytes g i c m) p b r b′ → DeedOn g (λ (c : Core). mean g (itemIn s i) c m) p b page r b′ page
-  item-bytes s i b r b′ page e h = same-meaning g p m (λ (c : Core). meanBytes g i c m) (λ (c : Core). mean g (itemIn s i) c m) b page r b′ page (λ c. sym (bytes-mean g s i c m e)) (h page)
 
   -- a command with the part of the stream that is its payload
   pub item-command : (s page : List ℕ) (i : Item) (k : Command) (from to : ℕ) (b : List ℕ) (r : Deed) (b′ page′ : List ℕ) → i ≡ found.Command k from to

@@ -1,17 +1,15 @@
 // Paper 01, "Commands": what a command with a value changes, and the finding that bars it, which is seen before anything is changed. Nothing is refused: a
-// barred command tells its finding. A measure within 4,800 by 6,800 dots is asked for, so that lengths fit, and a depth that the stack holds.
-ghost use Prim.Native.Nat.{_≤_};
+// barred command tells its finding. A measure within 4,800 by 6,800 dots is asked for, so that lengths fit.
+ghost use mathlib.Core.Path.{_≡_};
 ghost use Rattle.rules.specs.Measure.{Bounded};
-ghost use Rattle.do_change.specs.Changed.{Changed};
+ghost use Rattle.do_change.specs.Changed.{changeOf};
 use do_change::Change;
 use do_change::push_pop;
 use do_margin::hmi_at;
 use do_margin::left_at;
 use do_margin::lines_at;
-use do_margin::new_right;
 use do_margin::right_at;
 use do_margin::termination_at;
-use do_margin::times;
 use do_margin::top_at;
 use do_margin::vmi_at;
 use do_position::across_at;
@@ -21,8 +19,6 @@ use do_raster::reset_at;
 use do_raster::resolution_at;
 use do_raster::skip_at;
 use do_raster::start_at;
-use do_value::size_of;
-use do_value::whole_part;
 use rules::Kind;
 use rules::Layout;
 use rules::Measure;
@@ -41,8 +37,8 @@ pub fn changed(
     r: Raster,
     depth: usize,
 ) -> Change
-    requires { ⌜ Bounded g × (depth ≤ 20) ⌝ }
-    ensures { λ q. ⌜ Changed g k v at l r depth q ⌝ }
+    requires { ⌜ Bounded g ⌝ }
+    ensures { λ q. ⌜ q ≡ changeOf g k v at l r depth ⌝ }
 {
     match k {
         Kind::Column => Change::To(across_at(g, l.hmi, v, at)),
@@ -51,18 +47,18 @@ pub fn changed(
         Kind::DecipointDown => Change::To(down_at(g, l.top as u64, 10, v, at)),
         Kind::DotDown => Change::To(down_at(g, l.top as u64, 24, v, at)),
         Kind::Line => Change::To(down_at(g, first_line_at(l), l.vmi, v, at)),
-        Kind::LeftMargin => left_at(g, times(v, l.hmi), at, l),
-        Kind::RightMargin => right_at(g, new_right(g, v, l.hmi), at, l),
-        Kind::TopMargin => top_at(g, times(v, l.vmi), at, l),
-        Kind::Vmi => vmi_at(size_of(v), at, l),
-        Kind::LinesPerInch => lines_at(whole_part(v), at, l),
-        Kind::Hmi => hmi_at(size_of(v), at, l),
-        Kind::Termination => termination_at(whole_part(v), at, l),
-        Kind::PushPop => push_pop(whole_part(v), depth),
-        Kind::Resolution => resolution_at(whole_part(v), r),
-        Kind::StartRaster => start_at(whole_part(v), at, r),
+        Kind::LeftMargin => left_at(g, v, at, l),
+        Kind::RightMargin => right_at(g, v, at, l),
+        Kind::TopMargin => top_at(g, v, at, l),
+        Kind::Vmi => vmi_at(v, at, l),
+        Kind::LinesPerInch => lines_at(v, at, l),
+        Kind::Hmi => hmi_at(v, at, l),
+        Kind::Termination => termination_at(v, at, l),
+        Kind::PushPop => push_pop(v, depth),
+        Kind::Resolution => resolution_at(v, r),
+        Kind::StartRaster => start_at(v, at, r),
         Kind::EndRaster => end_at(r),
         Kind::ResetRaster => reset_at(r),
-        Kind::SkipRows => skip_at(g, whole_part(v), at, r),
+        Kind::SkipRows => skip_at(g, v, at, r),
     }
 }

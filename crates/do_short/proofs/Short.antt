@@ -4,6 +4,7 @@ use mathlib.Core.Path.{_≡_, refl}
 use mathlib.Core.Bool.{Bool, true, false, cond, not, _||_}
 use mathlib.Core.List.{List}
 use Prim.Native.Nat.{ℕ, _+_}
+use native.Mathlib.Omega.{arith}
 use lib.Dec.{eqb}
 use Rattle.rules.specs.declared.Measure.{Measure}
 use Rattle.rules.specs.declared.Code.{Code}
@@ -21,12 +22,14 @@ use Rattle.rules.specs.Codes.{coded, escaped, codeByte, escapeByte}
 use Rattle.rules.specs.Acts.{control, escape, endsPage, besideAfter, gate, Meaning, nothingDone, meanCode, meanTwo, mean}
 use Rattle.rules.specs.Items as rule
 use Rattle.read_item.specs.declared.Item.{Item}
+use Rattle.read_item.specs.declared.Item.the-variants as found
+use Rattle.read_item.specs.Items.{itemIn}
 use Rattle.do_short.specs.declared.Coding.{Coding}
 use Rattle.do_short.specs.declared.Coding.the-variants as coding
 use Rattle.do_short.specs.declared.Escaping.{Escaping}
 use Rattle.do_short.specs.declared.Escaping.the-variants as escaping
 use Rattle.do_deed.specs.Acted.{acted}
-use Rattle.do_short.specs.Meant.{codeOf, escapeOf, meanBytes}
+use Rattle.do_short.specs.Meant.{codeOf, escapeOf, isCommand}
 use Rattle.rules.specs.declared.Layout.{Layout}
 use Rattle.do_text.specs.Cursor.{typedSpot}
 use Rattle.do_text.proofs.Typing.{typed-parts}
@@ -131,12 +134,20 @@ module _ (g : Measure) (p : Pen) (m : Beside) where
   text-deed b at u r e f h s page = rw h (record { acted = λ l. text-done g b (coreOf p l s) (coreOf (penWith at (p .layout) (p .raster) u (p .depth)) l s) m (typed-parts g b (coreOf p l s) at u e f) page; placed = tt })
 
   -- an item that a `match` has told
-  pub bytes-told : (i j : Item) (b : List ℕ) (r : Deed) (b′ : List ℕ) → i ≡ j → DeedFor g (λ (c : Core). meanBytes g j c m) p b r b′ → DeedFor g (λ (c : Core). meanBytes g i c m) p b r b′
-  bytes-told i j b r b′ e h = rw e h
+  pub bytes-told : (i j : Item) (b : List ℕ) (r : Deed) (b′ s : List ℕ) → i ≡ j → DeedFor g (λ (c : Core). mean g (itemIn s j) c m) p b r b′ → DeedFor g (λ (c : Core). mean g (itemIn s i) c m) p b r b′
+  bytes-told i j b r b′ s e h = rw e h
 
-  -- a broken piece, or a command that is not its to do
-  pub bytes-nothing : (i j : Item) (f : Finding) (b : List ℕ) (r : Deed) → i ≡ j → ((c : Core) → meanBytes g j c m ≡ nothingDone f m) → r ≡ deedOf p m f false Kept → DeedFor g (λ (c : Core). meanBytes g i c m) p b r b
-  bytes-nothing i j f b r e h k = rw e (nothing g p m (λ (c : Core). meanBytes g j c m) f r h k b)
+  -- a broken piece
+  pub bytes-broken : (i : Item) (f : Finding) (b : List ℕ) (r : Deed) → i ≡ found.Broken f → r ≡ deedOf p m f false Kept → (s : List ℕ) → DeedFor g (λ (c : Core). mean g (itemIn s i) c m) p b r b
+  unfolding mean
+  bytes-broken i f b r e k s = rw e (nothing g p m (λ (c : Core). mean g (rule.broken f) c m) f r (λ c. refl) k b)
+
+-- a command does not come here
+pub no-command : (i j : Item) → i ≡ j → isCommand j ≡ true → isCommand i ≡ false → ⊥
+no-command i j e h k =
+    let d : true ≡ false = cc in
+    let z : _≡_ {A = ℕ} 0 1 = cc in
+    omega arith
 
 -- ESC E
 pub reset-deed : (g : Measure) (p : Pen) (f : Core) (q : Pen) (b : List ℕ) → f ≡ freshCore g → q ≡ penOf f → (m : Beside) → DeedFor g (λ (c : Core). gate g (escape Reset) c m) p b (deedOf q (besideOf 0) Nothing (p .used) Emptied) zeroSeed

@@ -1,5 +1,5 @@
 // The items that are no command with a letter: text, control codes, two-byte commands and broken pieces. Nothing is refused. A measure within 4,800 by
-// 6,800 dots is asked for, so that lengths fit.
+// 6,800 dots is asked for, so that lengths fit, and that an item is no command.
 ghost use mathlib.Core.Path.{_≡_};
 ghost use mathlib.Core.Bool.{false, cond};
 ghost use mathlib.Core.List.{List};
@@ -9,8 +9,9 @@ ghost use Rattle.rules.specs.declared.Escape.the-variants.{Reset, ClearMargins,
 ghost use Rattle.rules.specs.Measure.{Bounded};
 ghost use Rattle.rules.specs.Items.{text};
 ghost use Rattle.rules.specs.Acts.{gate, control, escape, meanCode, meanTwo, mean};
+ghost use Rattle.read_item.specs.Items.{itemIn};
 ghost use Rattle.do_deed.specs.Deeds.{DeedFor};
-ghost use Rattle.do_short.specs.Meant.{codeOf, escapeOf, meanBytes};
+ghost use Rattle.do_short.specs.Meant.{codeOf, escapeOf, isCommand};
 use do_code::clear_margins;
 use do_code::code_ends_page;
 use do_code::coded_at;
@@ -190,10 +191,12 @@ fn do_text(g: Measure, b: u8, p: Pen, m: Beside) -> Deed
     kept(Finding::Nothing, pen, m)
 }
 
-// An item that is no command: one byte, two, or a broken piece, which does nothing but give its finding.
+// An item that is no command: one byte, two, or a broken piece, which does nothing but give its finding. A command does not come here: who calls has
+// taken it apart. None of these has a payload, so that they mean the same in every stream.
 pub fn do_bytes(g: Measure, i: Item, p: Pen, m: Beside, seed: &mut [u8; 600]) -> Deed
     requires { ⌜ Bounded g ⌝ }
-    ensures { λ r. ⌜ DeedFor g (λ (c : Core). meanBytes g i c m) p (now (seed .entry)) r (now (seed .exit)) ⌝ }
+    requires { ⌜ isCommand i ≡ false ⌝ }
+    ensures { λ r. ⌜ ((s : List ℕ) → DeedFor g (λ (c : Core). mean g (itemIn s i) c m) p (now (seed .entry)) r (now (seed .exit))) ⌝ }
 {
     match i {
         Item::Text(b) => do_text(g, b, p, m),

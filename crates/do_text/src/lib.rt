@@ -6,11 +6,11 @@ ghost use Prim.Native.Nat.{_≤_};
 ghost use lib.Dec.{eqb, leb};
 ghost use Rattle.rules.specs.Measure.{Bounded, LW};
 ghost use Rattle.do_text.specs.Cursor.{forwardSpot, typedSpot, TypedAll};
+use common::least;
 use rules::Layout;
 use rules::Measure;
 use rules::Spot;
 use state_page::into_width;
-use state_page::least;
 use state_page::width;
 
 // Where a move forward stops: R if x ≤ R, else LW.
@@ -26,8 +26,9 @@ pub fn forward_at(g: Measure, n: u64, at: Spot, l: Layout) -> Spot
     requires { ⌜ Bounded g ⌝ }
     ensures { λ r. ⌜ r ≡ forwardSpot g n at l ⌝ }
 {
-    let stop = stop_at(g, at.x, l.right) as u64;
-    let x = into_width(g, least(n, stop));
+    let stop = stop_at(g, at.x, l.right) as usize;
+    let to = n as usize;
+    let x = into_width(g, least(to, stop) as u64);
     Spot { x, y: at.y }
 }
 

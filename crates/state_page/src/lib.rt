@@ -5,7 +5,6 @@ mod page;
 
 pub use numbers::inch_over;
 pub use numbers::is_resolution;
-pub use numbers::least;
 pub use numbers::less;
 pub use numbers::most;
 pub use page::allowed;

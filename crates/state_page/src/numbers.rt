@@ -1,6 +1,6 @@
 // Arithmetic and a test of numbers that the effects share.
 ghost use mathlib.Core.Path.{_≡_};
-ghost use Prim.Native.Nat.{_-_, _/_, _≤_, min, max};
+ghost use Prim.Native.Nat.{_-_, _/_, _≤_, max};
 ghost use Rattle.common.specs.Choice.{oneOf};
 ghost use Rattle.rules.specs.Measure.{inch};
 ghost use Rattle.rules.specs.Sound.{resolutions};
@@ -10,13 +10,6 @@ pub fn most(a: u64, b: u64) -> u64
     ensures { λ r. ⌜ r ≡ max a b ⌝ }
 {
     if a < b { b } else { a }
-}
-
-// The lesser of two numbers.
-pub fn least(a: u64, b: u64) -> u64
-    ensures { λ r. ⌜ r ≡ min a b ⌝ }
-{
-    if a < b { a } else { b }
 }
 
 // What is left of a number, no less than 0.

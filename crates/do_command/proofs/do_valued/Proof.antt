@@ -20,10 +20,10 @@ changed-requires : tie.Need-changed-requires
 changed-requires c κs = search needs
 
 make-requires : tie.Need-make-requires
-make-requires c κs = change-placed _ _ _ _ _ _ _ _ (c .before .changed .ensures)
+make-requires c κs = change-placed _ _ _ _ _ _ _ _ (c .before .before .before .before .before .before .before .before .pre .1) (c .before .changed .ensures)
 
 returns-2 : tie.Need-returns-2
-returns-2 c = valued-deed _ _ _ _ _ _ _ _ _ _ _ (c .before .before .before .before .before .before .before .before .is-negative .ensures) (c .before .before .before .before .before .before .before .if1 .left) (c .before .before .before .used-value .ensures) (c .before .before .changed .ensures) (c .make .ensures)
+returns-2 c = valued-deed _ _ _ _ _ _ _ _ _ _ _ (c .before .before .before .before .before .before .before .before .is-negative .ensures) (c .before .before .before .before .before .before .before .if1 .left) (c .before .before .before .used-value .ensures) (c .before .before .before .before .before .before .before .before .before .pre .1) (c .before .before .changed .ensures) (c .make .ensures)
 
 pub do-valued-spec : {M : Type 1} → statement M
 do-valued-spec =

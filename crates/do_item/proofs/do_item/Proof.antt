@@ -2,7 +2,7 @@
 use native.Mathlib.Omega.{arith}
 use mathlib.Core.Path.{ap}
 use Rattle.read_item.specs.Items.{fromOf, toOf}
-use Rattle.do_item.proofs.Items.{item-bytes, item-command}
+use Rattle.do_item.proofs.Items.{no-command, item-command}
 use borrow.Author.Needs.{needs}
 use Rattle.do_item.proofs.do_item.Statement.{statement}
 use Rattle.do_item.proofs.do_item.Tie as tie
@@ -11,10 +11,10 @@ enum-known-i : tie.Need-enum-known-i
 enum-known-i c = search needs
 
 do-bytes-requires : tie.Need-do-bytes-requires
-do-bytes-requires c κs = search needs
+do-bytes-requires c κs = search (no-command, c .before .match .keys2, needs)
 
 returns : tie.Need-returns
-returns c = item-bytes _ _ (c .before .before .before .before .before .args .m) (c .before .before .before .before .before .args .s .now) (c .before .before .before .before .before .args .i) _ _ _ _ (c .before .before .match .keys2) (c .do-bytes .ensures)
+returns c = c .do-bytes .ensures _ _
 
 sub-do-command : tie.Need-sub-do-command
 sub-do-command c = omega (arith, ap fromOf (c .before .before .i .given .1), ap toOf (c .before .before .i .given .1))

@@ -1,6 +1,6 @@
 -- `do_margin::new_right` meets its contract. Assumes nothing.
-use borrow.Author.Needs.{needs}
 use Rattle.do_margin.proofs.Rates.{columns-fit}
+use borrow.Author.Needs.{needs}
 use Rattle.do_margin.proofs.new_right.Statement.{statement}
 use Rattle.do_margin.proofs.new_right.Tie as tie
 

@@ -4,14 +4,17 @@ use borrow.Author.Needs.{needs}
 use Rattle.do_margin.proofs.termination_at.Statement.{statement}
 use Rattle.do_margin.proofs.termination_at.Tie as tie
 
+whole-part-requires : tie.Need-whole-part-requires
+whole-part-requires c κs = search needs
+
 returns : tie.Need-returns
-returns c = λ g v q deep e. search (termination-barred, e, needs)
+returns c = λ g q deep. search (termination-barred, needs)
 
 cast-t : tie.Need-cast-t
 cast-t c = search needs
 
 returns-2 : tie.Need-returns-2
-returns-2 c = λ g v q deep e. search (termination, e, needs)
+returns-2 c = λ g q deep. search (termination, needs)
 
 pub termination-at-spec : {M : Type 1} → statement M
-termination-at-spec = tie.close (tie.spec returns cast-t returns-2)
+termination-at-spec = tie.close (tie.spec whole-part-requires returns cast-t returns-2)

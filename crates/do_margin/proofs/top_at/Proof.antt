@@ -6,7 +6,10 @@ use Rattle.do_margin.proofs.top_at.Statement.{statement}
 use Rattle.do_margin.proofs.top_at.Tie as tie
 
 returns : tie.Need-returns
-returns c = λ v q deep e. search (top-still, e, needs)
+returns c = λ q deep. search (top-still, needs)
+
+times-requires : tie.Need-times-requires
+times-requires c κs = search needs
 
 in-height-requires : tie.Need-in-height-requires
 in-height-requires c κs = search needs
@@ -15,10 +18,11 @@ cast-m : tie.Need-cast-m
 cast-m c = search (height-fits, needs)
 
 returns-2 : tie.Need-returns-2
-returns-2 c = λ v q deep e. search (top, e, c .before .before .if1 .left, needs)
+returns-2 c = λ q deep. search (top, c .before .before .before .if1 .left, needs)
 
 returns-3 : tie.Need-returns-3
-returns-3 c = λ v q deep e. search (top-beyond, e, c .before .before .if1 .left, needs)
+returns-3 c = λ q deep. search (top-beyond, c .before .before .before .if1 .left, needs)
 
 pub top-at-spec : {M : Type 1} → statement M
-top-at-spec = tie.close (tie.spec returns in-height-requires cast-m returns-2 returns-3)
+top-at-spec =
+    tie.close (tie.spec returns times-requires in-height-requires cast-m returns-2 returns-3)

@@ -52,17 +52,11 @@ down-at-requires-3 c κs = search needs
 enum-told-7 : tie.Need-enum-told-7
 enum-told-7 c = search needs
 
-times-requires : tie.Need-times-requires
-times-requires c κs = search needs
-
 left-at-requires : tie.Need-left-at-requires
 left-at-requires c κs = search needs
 
 enum-told-8 : tie.Need-enum-told-8
 enum-told-8 c = search needs
-
-new-right-requires : tie.Need-new-right-requires
-new-right-requires c κs = search needs
 
 right-at-requires : tie.Need-right-at-requires
 right-at-requires c κs = search needs
@@ -70,17 +64,11 @@ right-at-requires c κs = search needs
 enum-told-9 : tie.Need-enum-told-9
 enum-told-9 c = search needs
 
-times-requires-2 : tie.Need-times-requires-2
-times-requires-2 c κs = search needs
-
 top-at-requires : tie.Need-top-at-requires
 top-at-requires c κs = search needs
 
 enum-told-10 : tie.Need-enum-told-10
 enum-told-10 c = search needs
-
-size-of-requires : tie.Need-size-of-requires
-size-of-requires c κs = search needs
 
 vmi-at-requires : tie.Need-vmi-at-requires
 vmi-at-requires c κs = search needs
@@ -88,17 +76,11 @@ vmi-at-requires c κs = search needs
 enum-told-11 : tie.Need-enum-told-11
 enum-told-11 c = search needs
 
-whole-part-requires : tie.Need-whole-part-requires
-whole-part-requires c κs = search needs
-
 lines-at-requires : tie.Need-lines-at-requires
 lines-at-requires c κs = search needs
 
 enum-told-12 : tie.Need-enum-told-12
 enum-told-12 c = search needs
-
-size-of-requires-2 : tie.Need-size-of-requires-2
-size-of-requires-2 c κs = search needs
 
 hmi-at-requires : tie.Need-hmi-at-requires
 hmi-at-requires c κs = search needs
@@ -106,17 +88,11 @@ hmi-at-requires c κs = search needs
 enum-told-13 : tie.Need-enum-told-13
 enum-told-13 c = search needs
 
-whole-part-requires-2 : tie.Need-whole-part-requires-2
-whole-part-requires-2 c κs = search needs
-
 termination-at-requires : tie.Need-termination-at-requires
 termination-at-requires c κs = search needs
 
 enum-told-14 : tie.Need-enum-told-14
 enum-told-14 c = search needs
-
-whole-part-requires-3 : tie.Need-whole-part-requires-3
-whole-part-requires-3 c κs = search needs
 
 push-pop-requires : tie.Need-push-pop-requires
 push-pop-requires c κs = search needs
@@ -124,17 +100,11 @@ push-pop-requires c κs = search needs
 enum-told-15 : tie.Need-enum-told-15
 enum-told-15 c = search needs
 
-whole-part-requires-4 : tie.Need-whole-part-requires-4
-whole-part-requires-4 c κs = search needs
-
 resolution-at-requires : tie.Need-resolution-at-requires
 resolution-at-requires c κs = search needs
 
 enum-told-16 : tie.Need-enum-told-16
 enum-told-16 c = search needs
-
-whole-part-requires-5 : tie.Need-whole-part-requires-5
-whole-part-requires-5 c κs = search needs
 
 start-at-requires : tie.Need-start-at-requires
 start-at-requires c κs = search needs
@@ -153,9 +123,6 @@ reset-at-requires c κs = search needs
 
 enum-told-19 : tie.Need-enum-told-19
 enum-told-19 c = search needs
-
-whole-part-requires-6 : tie.Need-whole-part-requires-6
-whole-part-requires-6 c κs = search needs
 
 skip-at-requires : tie.Need-skip-at-requires
 skip-at-requires c κs = search needs
@@ -237,41 +204,30 @@ changed-spec =
     first-line-at-requires
     down-at-requires-3
     enum-told-7
-    times-requires
     left-at-requires
     enum-told-8
-    new-right-requires
     right-at-requires
     enum-told-9
-    times-requires-2
     top-at-requires
     enum-told-10
-    size-of-requires
     vmi-at-requires
     enum-told-11
-    whole-part-requires
     lines-at-requires
     enum-told-12
-    size-of-requires-2
     hmi-at-requires
     enum-told-13
-    whole-part-requires-2
     termination-at-requires
     enum-told-14
-    whole-part-requires-3
     push-pop-requires
     enum-told-15
-    whole-part-requires-4
     resolution-at-requires
     enum-told-16
-    whole-part-requires-5
     start-at-requires
     enum-told-17
     end-at-requires
     enum-told-18
     reset-at-requires
     enum-told-19
-    whole-part-requires-6
     skip-at-requires
     returns
     returns-2

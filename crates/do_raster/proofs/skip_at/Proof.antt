@@ -7,6 +7,9 @@ use Rattle.do_raster.proofs.skip_at.Tie as tie
 cast-into-height : tie.Need-cast-into-height
 cast-into-height c = search needs
 
+whole-part-requires : tie.Need-whole-part-requires
+whole-part-requires c κs = search needs
+
 rows-high-requires : tie.Need-rows-high-requires
 rows-high-requires c κs = search needs
 
@@ -17,16 +20,17 @@ into-height-requires : tie.Need-into-height-requires
 into-height-requires c κs = search needs
 
 returns : tie.Need-returns
-returns c = λ v l deep e. search (skip, e, needs)
+returns c = λ l deep. search (skip, needs)
 
 returns-2 : tie.Need-returns-2
-returns-2 c = λ v l deep e. search (skip-early, needs)
+returns-2 c = λ l deep. search (skip-early, needs)
 
 pub skip-at-spec : {M : Type 1} → statement M
 skip-at-spec =
     tie.close
     (tie.spec
     cast-into-height
+    whole-part-requires
     rows-high-requires
     add-into-height
     into-height-requires

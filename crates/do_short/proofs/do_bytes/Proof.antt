@@ -1,6 +1,6 @@
 -- `do_short::do_bytes` meets its contract. Assumes nothing.
 use Rattle.rules.specs.Acts.{mean}
-use Rattle.do_short.proofs.Short.{bytes-told, bytes-nothing}
+use Rattle.do_short.proofs.Short.{bytes-told, bytes-broken, no-command}
 use mathlib.Core.Path.{refl}
 use borrow.Author.Needs.{needs}
 use Rattle.do_short.proofs.do_bytes.Statement.{statement}
@@ -38,23 +38,21 @@ kept-requires-2 c κs = search needs
 
 returns : tie.Need-returns
 unfolding mean
-returns c = bytes-told _ _ _ _ _ _ _ _ (c .before .before .i .given .1) (c .do-text .ensures _)
+returns c = λ s. bytes-told _ _ _ _ _ _ _ _ s (c .before .before .i .given .1) (c .do-text .ensures _)
 
 returns-2 : tie.Need-returns-2
 unfolding mean
-returns-2 c = bytes-told _ _ _ _ _ _ _ _ (c .before .before .i2 .given .1) (c .do-code-byte .ensures _)
+returns-2 c = λ s. bytes-told _ _ _ _ _ _ _ _ s (c .before .before .i2 .given .1) (c .do-code-byte .ensures _)
 
 returns-3 : tie.Need-returns-3
 unfolding mean
-returns-3 c = bytes-told _ _ _ _ _ _ _ _ (c .before .before .before .i3 .given .1) (c .do-escape-byte .ensures)
+returns-3 c = λ s. bytes-told _ _ _ _ _ _ _ _ s (c .before .before .before .i3 .given .1) (c .do-escape-byte .ensures)
 
 returns-4 : tie.Need-returns-4
-unfolding mean
-returns-4 c = bytes-nothing _ _ _ _ _ _ _ _ (c .before .enum-told .given .1) (λ x. refl) (c .kept .ensures)
+returns-4 c = absurd (no-command _ _ (c .before .enum-told .given .1) refl (c .before .before .before .pre .1))
 
 returns-5 : tie.Need-returns-5
-unfolding mean
-returns-5 c = bytes-nothing _ _ _ _ _ _ _ _ (c .before .before .i4 .given .1) (λ x. refl) (c .kept2 .ensures)
+returns-5 c = bytes-broken _ _ _ _ _ _ _ (c .before .before .i4 .given .1) (c .kept2 .ensures)
 
 pub do-bytes-spec : {M : Type 1} → statement M
 do-bytes-spec =
