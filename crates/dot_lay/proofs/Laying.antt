@@ -12,7 +12,7 @@ use Rattle.common.proofs.Places.{cut}
 use Rattle.common.proofs.Parts.{put-back}
 use Rattle.rules.specs.Dots.{inkedLine}
 use Rattle.dot_lay.specs.Laid.{inkByte, ored, Shifted}
-use Rattle.dot_lay.proofs.Inks.{no-ink}
+use Rattle.theorems.proofs.Inks.{no-ink}
 use Rattle.dot_lay.proofs.Lines.{or-ink, stored, line-blank, take-small, line-from}
 use Rattle.dot_lay.proofs.Windows.{plain-ink, shifted-line}
 

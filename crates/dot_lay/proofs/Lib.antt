@@ -1,4 +1,3 @@
-pub mod Inks
 pub mod Lines
 pub mod Windows
 pub mod Laying

@@ -4,7 +4,6 @@ use mathlib.Core.List.{List, [], _∷_, _++_, append-assoc, append-nil}
 use mathlib.Core.Logic.{⊎-elim}
 use Prim.Native.Nat.{ℕ, zero, suc, _+_, _-_, _*_, _/_, _≤_, _<_, max}
 use native.Mathlib.Omega.{arith}
-use native.Mathlib.Nat.{le-of-suc-le-suc, not-suc-le-zero}
 use native.Mathlib.Numerals.{add-one}
 use lib.Bits.{bitOr, or-lt}
 use lib.ListN.{length, getD, take, drop, set, length-take, length-drop, drop-of-length-le, List·getD-eq-default, take-append-drop}
@@ -14,8 +13,8 @@ use Rattle.common.proofs.Bits.{bit-or, byteOf-cong, byteOf-bit, byteOf-lt, bit-
 use Rattle.common.proofs.Choices.{le-or-lt}
 use Rattle.common.proofs.Parts.{put-back}
 use Rattle.rules.specs.Dots.{ink, inkedByte, inkedLine}
+use Rattle.theorems.proofs.Inks.{ink-lt, no-ink}
 use Rattle.dot_lay.specs.Laid.{inkByte}
-use Rattle.dot_lay.proofs.Inks.{ink-lt, no-ink}
 
 -- a byte with the byte of its ink or-ed in is the inked byte
 pub or-ink : (row : List ℕ) (dots from j b k : ℕ) → b < 256 → k ≡ inkByte row dots from j → bitOr b k ≡ inkedByte row dots from j b
@@ -27,22 +26,9 @@ or-ink row dots from j b k h e =
     (sym (byteOf-bit (bitOr b (byteOf f)) (or-lt 8 b (byteOf f) h (byteOf-lt f s)))
     ∙ byteOf-cong (bit (bitOr b (byteOf f))) (λ i. max (bit b i) (f i)) (λ i l. rw (bit-or, bit-byteOf f s i l)))
 
--- painting keeps the length of a page row
-pub line-length : (row : List ℕ) (dots from j : ℕ) (p : List ℕ) → length (inkedLine row dots from j p) ≡ length p
-unfolding inkedLine
-line-length row dots from j [] = refl
-line-length row dots from j (b ∷ p) = ap suc (line-length row dots from (suc j) p)
-
 -- a byte stored behind j bytes that are ready
 pub stored : (l : List ℕ) (j v : ℕ) (q : List ℕ) → j < length l → take (j + 1) (set l j v) ++ q ≡ take j l ++ (v ∷ q)
 stored l j v q h = rw (add-one, take-suc-set l j v h, append-assoc)
-
--- byte m of a painted page row
-pub line-at : (row : List ℕ) (dots from j : ℕ) (p : List ℕ) (m : ℕ) → m < length p → getD (inkedLine row dots from j p) m 0 ≡ inkedByte row dots from (j + m) (getD p m 0)
-unfolding inkedLine
-line-at row dots from j [] m h = absurd (not-suc-le-zero h)
-line-at row dots from j (b ∷ p) zero h = let e : j + 0 ≡ j = omega arith in rw e
-line-at row dots from j (b ∷ p) (suc m) h = let e : j + suc m ≡ suc j + m = omega arith in rw e (line-at row dots from (suc j) p m (le-of-suc-le-suc h))
 
 -- a page row in two parts
 line-append : (row : List ℕ) (dots from j : ℕ) (p q : List ℕ) → inkedLine row dots from j (p ++ q) ≡ inkedLine row dots from j p ++ inkedLine row dots from (j + length p) q

@@ -14,8 +14,8 @@ use Rattle.common.proofs.Bits.{dot-at, byteOf-cong, byteOf-bit, shifted-cur, sh
 use Rattle.common.proofs.Choices.{le-or-lt}
 use Rattle.rules.specs.Dots.{ink, inkedLine}
 use Rattle.dot_lay.specs.Laid.{inkByte, prior, windowAt, Shifted}
-use Rattle.dot_lay.proofs.Inks.{bit-zero, ink-at, no-ink}
-use Rattle.dot_lay.proofs.Lines.{or-ink, line-length, line-at}
+use Rattle.theorems.proofs.Inks.{bit-zero, ink-at, no-ink, line-length, line-at}
+use Rattle.dot_lay.proofs.Lines.{or-ink}
 
 -- ---- windows of two bytes
 

@@ -11,7 +11,7 @@ use Rattle.common.proofs.Bits.{byteOf-cong}
 use Rattle.common.proofs.Choices.{le-or-lt}
 use Rattle.rules.specs.Dots.{ink, inkedByte, inkedLine, inkedLines}
 use Rattle.dot_ink.specs.Ink.{Used}
-use Rattle.dot_lay.proofs.Inks.{bit-zero, ink-at, no-ink}
+use Rattle.theorems.proofs.Inks.{bit-zero, ink-at, no-ink}
 use Rattle.dot_lay.proofs.Lines.{line-blank, take-small}
 
 -- a page row

@@ -10,7 +10,7 @@ use lib.Seq.{take-all, take-nil, drop-nil, take-at, drop-at, length-take-le}
 use Rattle.common.proofs.Choices.{le-or-lt}
 use Rattle.common.proofs.Parts.{row-step, put-back, back-length}
 use Rattle.rules.specs.Dots.{inkedLine, inkedLines, painted}
-use Rattle.dot_lay.proofs.Lines.{line-length}
+use Rattle.theorems.proofs.Inks.{line-length}
 
 -- no page, nothing painted
 lines-none : (w : ℕ) (row : List ℕ) (dots from n : ℕ) → inkedLines w row dots from n [] ≡ []

@@ -1,4 +1,3 @@
 pub mod Covers
 pub mod Alike
 pub mod Squares
-pub mod Rule

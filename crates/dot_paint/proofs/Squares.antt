@@ -11,7 +11,7 @@ use Rattle.common.proofs.Choices.{le-or-lt}
 use Rattle.rules.specs.Dots.{inkedLines}
 use Rattle.dot_ink.specs.Ink.{Used, Squared}
 use Rattle.dot_ink.proofs.Inks.{square-dot}
-use Rattle.dot_lay.proofs.Inks.{bit-zero}
+use Rattle.theorems.proofs.Inks.{bit-zero}
 use Rattle.dot_paint.proofs.Alike.{ink-by, past-used, lines-cong}
 
 -- two, three or four dots

@@ -15,7 +15,7 @@ use Rattle.dot_lay.specs.Laid.{inkByte}
 use Rattle.dot_slowly.specs.declared.Walk.{Walk}
 use Rattle.dot_slowly.specs.declared.Eight.{Eight}
 use Rattle.dot_slowly.specs.Walks.{Stands, Eighth}
-use Rattle.dot_lay.proofs.Inks.{ink-lt}
+use Rattle.theorems.proofs.Inks.{ink-lt}
 use Rattle.dot_lay.proofs.Lines.{or-ink, stored}
 use Rattle.dot_lay.proofs.Laying.{laid-one}
 use Rattle.dot_slowly.proofs.Walking.{stands-first, stands-near}

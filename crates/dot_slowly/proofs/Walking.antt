@@ -14,7 +14,7 @@ use Rattle.common.specs.Bits.{bit, dot, byteOf}
 use Rattle.common.proofs.Choices.{le-or-lt}
 use Rattle.common.proofs.Bits.{dot-at}
 use Rattle.rules.specs.Dots.{ink}
-use Rattle.dot_lay.proofs.Inks.{ink-lt}
+use Rattle.theorems.proofs.Inks.{ink-lt}
 use Rattle.dot_slowly.specs.declared.Walk.{Walk}
 use Rattle.dot_slowly.specs.Walks.{Onward, Seen, Stands, Eighth}
 

@@ -29,8 +29,9 @@ pub data Ask : Type 0 where
   hmi-is : ℕ → Ask
   dots-are : ℕ → Ask  -- on the page being drawn
   dots-in : ℕ → ℕ → Ask  -- of one page row
-  dot-is : ℕ → ℕ → ℕ → Ask  -- at x, y
+  byte-is : ℕ → ℕ → ℕ → Ask  -- of one page row
   seed-is : ℕ → ℕ → Ask  -- of one byte of the seed row
+  items-are : ℕ → Ask
   finding-is : ℕ → ℕ → Ask  -- of one item, counted from 0
   pages-are : ℕ → Ask  -- handed over
 
@@ -50,8 +51,9 @@ meets t w (y-is n) = eqb (t .state .core .at .y) n
 meets t w (hmi-is n) = eqb (t .state .core .layout .hmi) n
 meets t w (dots-are n) = eqb (onesAll (w .page)) n
 meets t w (dots-in y n) = eqb (onesAll (take 80 (drop (y * 80) (w .page)))) n
-meets t w (dot-is x y n) = eqb (dot (w .page) (y * 640 + x)) n
+meets t w (byte-is y i n) = eqb (getD (w .page) (y * 80 + i) 0) n
 meets t w (seed-is i n) = eqb (getD (t .state .core .seed) i 0) n
+meets t w (items-are n) = eqb (length (t .items)) n
 meets t w (finding-is i n) = eqb (findingNumber (getD (findingsOf (t .items)) i EndsInside)) n
 meets t w (pages-are n) = eqb (length (w .handed)) n
 
@@ -104,10 +106,12 @@ table =
     example (&a (49 ∷ 48 ∷ 67 ∷ &a (45 ∷ 48 ∷ 46 ∷ 53 ∷ 67 ∷ []))) (x-is 6840 ∷ []) ∷
     -- 8. &k10.5H: HMI 630.
     example (&k (49 ∷ 48 ∷ 46 ∷ 53 ∷ 72 ∷ [])) (hmi-is 630 ∷ []) ∷
-    -- 9. &p3X with ESC E A: x 2,160, no reset.
-    example (&p (51 ∷ 88 ∷ 27 ∷ 69 ∷ 65 ∷ [])) (x-is 2160 ∷ pages-are 0 ∷ finding-is 0 0 ∷ []) ∷
-    -- 10. *b1W, byte 80: 16 dots, rows 187 to 190, y 4,596.
-    example (*b (49 ∷ 87 ∷ 0x80 ∷ [])) (dots-are 16 ∷ dots-in 187 4 ∷ dots-in 188 4 ∷ dots-in 189 4 ∷ dots-in 190 4 ∷ dot-is 0 187 1 ∷ dot-is 3 190 1 ∷ y-is 4596 ∷ []) ∷
+    -- 9. &p3X with ESC E A: x 2,160, no reset. One item: the payload is read as nothing else.
+    example (&p (51 ∷ 88 ∷ 27 ∷ 69 ∷ 65 ∷ [])) (x-is 2160 ∷ items-are 1 ∷ pages-are 0 ∷ finding-is 0 0 ∷ []) ∷
+    -- 10. *b1W, byte 80: 16 dots, rows 187 to 190, y 4,596. Four dots of each of these rows, the first four; none above and none below.
+    example (*b (49 ∷ 87 ∷ 0x80 ∷ []))
+    (dots-are 16 ∷ dots-in 186 0 ∷ dots-in 187 4 ∷ dots-in 188 4 ∷ dots-in 189 4 ∷ dots-in 190 4 ∷ dots-in 191 0
+    ∷ byte-is 187 0 0xF0 ∷ byte-is 188 0 0xF0 ∷ byte-is 189 0 0xF0 ∷ byte-is 190 0 0xF0 ∷ y-is 4596 ∷ []) ∷
     -- 11. method 2, FE A5 01 0F F0: A5 A5 A5 0F F0.
     example (eleven []) (seed-is 0 0xA5 ∷ seed-is 1 0xA5 ∷ seed-is 2 0xA5 ∷ seed-is 3 0x0F ∷ seed-is 4 0xF0 ∷ seed-is 5 0 ∷ []) ∷
     -- 12. then method 3, 21 11 22: A5 11 22 0F F0.

@@ -1,11 +1,11 @@
 -- A run keeps the size of its page, and all pages of a stream have it. Assumes nothing.
-use mathlib.Core.Path.{_≡_, refl, ap, ap₂, sym, _∙_}
-use Prim.Native.Nat.{ℕ, zero, suc, _+_, _*_, _/_, _≤_}
+use mathlib.Core.Path.{_≡_, refl, ap₂, _∙_}
+use Prim.Native.Nat.{ℕ, zero, suc, _+_, _/_, _≤_}
 use native.Mathlib.Omega.{arith}
 use mathlib.Core.List.{List, [], _∷_, _++_, append-nil, head-eq-of-cons-eq, tail-eq-of-cons-eq}
 use mathlib.Core.Bool.{Bool, true, false, cond, _&&_, _||_}
 use lib.Dec.{eqb}
-use lib.ListN.{length, take, drop, take-append-drop, length-append, replicate, length-replicate}
+use lib.ListN.{length, drop, replicate, length-replicate}
 use Rattle.common.specs.Lists.{isNil}
 use Rattle.common.proofs.Choices.{choice}
 use Rattle.rules.specs.declared.Measure.{Measure}
@@ -13,38 +13,11 @@ use Rattle.rules.specs.declared.Core.{Core}
 use Rattle.rules.specs.declared.State.{State}
 use Rattle.rules.specs.Measure.{dotUnit, pageBytes, blank}
 use Rattle.rules.specs.Findings.{isClean}
-use Rattle.rules.specs.Dots.{inkedLine, inkedLines, painted}
 use Rattle.rules.specs.Acts.{Act, type, control, escape, order, print, draw, begun, next, endsPage, shown, World, world, show, showAll, step, over}
 use Rattle.rules.specs.Run.{Outcome, pageOf, runFrom, readied, run, acts, firstWorld, pages}
+use Rattle.theorems.proofs.Inks.{painted-length}
 use Rattle.theorems.proofs.Pages.{step-single}
 use Rattle.pages_step.specs.Sheets.{sizes, PagesAreWhole}
-
--- a page row painted on is as long as before
-line-length : (row : List ℕ) (dots from j : ℕ) (p : List ℕ) → length (inkedLine row dots from j p) ≡ length p
-unfolding inkedLine
-line-length row dots from j [] = refl
-line-length row dots from j (b ∷ p) = ap suc (line-length row dots from (suc j) p)
-
--- a text in two parts
-parts-length : (n : ℕ) (p : List ℕ) → length (take n p) + length (drop n p) ≡ length p
-parts-length n p = sym (length-append (take n p) (drop n p)) ∙ ap length (take-append-drop n p)
-
--- page rows painted on
-lines-length : (w : ℕ) (row : List ℕ) (dots from n : ℕ) (p : List ℕ) → length (inkedLines w row dots from n p) ≡ length p
-unfolding inkedLines
-lines-length w row dots from zero p = refl
-lines-length w row dots from (suc n) p =
-    length-append (inkedLine row dots from 0 (take w p)) (inkedLines w row dots from n (drop w p))
-    ∙ ap₂ _+_ (line-length row dots from 0 (take w p)) (lines-length w row dots from n (drop w p))
-    ∙ parts-length w p
-
--- a page painted on
-painted-length : (w : ℕ) (row : List ℕ) (dots from line : ℕ) (p : List ℕ) → length (painted w row dots from line p) ≡ length p
-unfolding painted
-painted-length w row dots from line p =
-    length-append (take (line * w) p) (inkedLines w row dots from dots (drop (line * w) p))
-    ∙ ap (λ n. length (take (line * w) p) + n) (lines-length w row dots from dots (drop (line * w) p))
-    ∙ parts-length (line * w) p
 
 module _ (g : Measure) where
   -- what an act shows

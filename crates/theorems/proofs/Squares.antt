@@ -2,22 +2,34 @@
 use mathlib.Core.Path.{_≡_, sym, ap, _∙_}
 use mathlib.Core.Bool.{true, false, cond, _&&_}
 use mathlib.Core.List.{List, _++_}
-use mathlib.Core.Logic.{⊎-elim}
+use mathlib.Core.Logic.{_⊎_, inl, inr, ⊎-elim}
 use Prim.Native.Nat.{ℕ, zero, suc, _+_, _-_, _*_, _/_, _%_, _≤_, _<_, max}
 use native.Mathlib.Omega.{arith}
-use native.Mathlib.Nat.{suc-mul, add-mul, le-of-suc-le-suc, not-suc-le-zero}
+use native.Mathlib.Nat.{suc-mul, add-mul, le-of-suc-le-suc, not-suc-le-zero, div-mul-le-self, lt-div-mul-add, div-eq-of-lt-le}
 use lib.Dec.{leb, ltb}
 use lib.ListN.{length, getD, take, drop, length-take, length-drop, take-append-drop}
-use lib.Seq.{take-at, drop-at, take-append-le, drop-append-le, drop-drop, length-take-le}
-use borrow.Author.Tests.{le-leb, lt-ltb, le-ltb, leb-true, ltb-false}
+use lib.Seq.{take-at, drop-at, take-append-le, drop-append-le, drop-drop, length-take-le, getD-take, getD-drop}
+use borrow.Author.Tests.{le-leb, lt-ltb, le-ltb, leb-true, ltb-true, ltb-false}
 use Rattle.common.specs.Bits.{bit, dot, byteOf}
-use Rattle.common.proofs.Bits.{bit-lt, bit-byteOf}
-use Rattle.common.proofs.Choices.{le-or-lt, choice-by, and-true}
+use Rattle.common.proofs.Bits.{bit-lt, dot-lt, bit-byteOf}
+use Rattle.common.proofs.Choices.{le-or-lt, choice, choice-by, and-true}
 use Rattle.common.proofs.Parts.{row-step}
 use Rattle.rules.specs.Dots.{ink, inkedByte, inkedLine, inkedLines, painted}
-use Rattle.dot_paint.specs.Pages.{pageRow}
-use Rattle.dot_lay.proofs.Inks.{ink-lt}
-use Rattle.dot_lay.proofs.Lines.{line-length, line-at}
+use Rattle.theorems.specs.Squares.{dotAt, Covered, DotRule}
+use Rattle.theorems.proofs.Inks.{ink-at, no-ink, ink-lt, line-length, line-at}
+
+-- row y of a page whose rows are w bytes
+unfoldable pageRow : ℕ → List ℕ → ℕ → List ℕ
+pageRow w page y = take w (drop (y * w) page)
+
+-- its dots are those of the page
+dot-row : (w : ℕ) (page : List ℕ) (x y : ℕ) → x < 8 * w → dotAt w page x y ≡ dot (pageRow w page y) x
+unfolding dot pageRow
+dot-row w page x y h =
+    let a : (8 * (y * w) + x) / 8 ≡ y * w + x / 8 = omega arith in
+    let b : (8 * (y * w) + x) % 8 ≡ x % 8 = omega arith in
+    let k : x / 8 < w = omega arith in
+    rw (a, b, getD-take w (drop (y * w) page) (x / 8) 0 k, getD-drop (y * w) page (x / 8) 0)
 
 -- dot x of a painted page row: it was set, or has ink
 line-dot : (row : List ℕ) (dots from : ℕ) (p : List ℕ) (x : ℕ) → x < 8 * length p → dot (inkedLine row dots from 0 p) x ≡ max (dot p x) (ink row dots from x)
@@ -99,23 +111,72 @@ module _ (w high : ℕ) (row : List ℕ) (dots from line : ℕ) (page : List ℕ
   row-below y h k = row-from y h (omega arith) ∙ rw (le-ltb y (line + dots) k)
 
   -- a row that is no row of the square stays, byte for byte
-  pub row-stays : (y : ℕ) → y < high → (leb line y && ltb y (line + dots)) ≡ false → pageRow w (painted w row dots from line page) y ≡ pageRow w page y
+  row-stays : (y : ℕ) → y < high → (leb line y && ltb y (line + dots)) ≡ false → pageRow w (painted w row dots from line page) y ≡ pageRow w page y
   row-stays y h t = ⊎-elim inside (row-above y h) (le-or-lt line y)
     where
       inside : line ≤ y → pageRow w (painted w row dots from line page) y ≡ pageRow w page y
       inside k = row-below y h (ltb-false y (line + dots) (rw (le-leb line y k) at t))
 
   -- a row of the square is painted
-  pub row-painted : (y : ℕ) → y < high → (leb line y && ltb y (line + dots)) ≡ true
+  row-painted : (y : ℕ) → y < high → (leb line y && ltb y (line + dots)) ≡ true
       → pageRow w (painted w row dots from line page) y ≡ inkedLine row dots from 0 (pageRow w page y)
   row-painted y h t =
       let a = and-true (leb line y) (ltb y (line + dots)) t in
       row-from y h (leb-true line y (a .0)) ∙ rw (a .1)
 
   -- each dot of the page: it was set, or the square covers it and has ink there
-  pub dot-rule : (x y : ℕ) → y < high → x < 8 * w
+  dot-by : (x y : ℕ) → y < high → x < 8 * w
       → dot (pageRow w (painted w row dots from line page) y) x ≡ max (dot (pageRow w page y) x) (cond (leb line y && ltb y (line + dots)) (ink row dots from x) 0)
-  dot-rule x y h l =
+  dot-by x y h l =
       choice-by (λ n. dot (pageRow w (painted w row dots from line page) y) x ≡ max (dot (pageRow w page y) x) n) (leb line y && ltb y (line + dots))
       (λ t. rw (row-painted y h t) (line-dot row dots from (pageRow w page y) x (omega (arith, row-length y h))))
       (λ t. rw (row-stays y h t) (omega arith))
+
+  -- the same of the page's dots
+  dot-both : (x y : ℕ) → x < 8 * w → y < high
+      → dotAt w (painted w row dots from line page) x y ≡ max (dotAt w page x y) (cond (leb line y && ltb y (line + dots)) (ink row dots from x) 0)
+  dot-both x y l h = dot-row w (painted w row dots from line page) x y l ∙ dot-by x y h l ∙ rw (dot-row w page x y l)
+
+  -- there is ink at a dot that is covered
+  ink-covered : (x y : ℕ) → Covered row dots from line x y → cond (leb line y && ltb y (line + dots)) (ink row dots from x) 0 ≡ 1
+  ink-covered x y c =
+      let i = c .number in
+      let k = c .inside in
+      let a : i * dots ≤ x - from = omega (arith, k .from-left) in
+      let b : x - from < (i + 1) * dots = omega (arith, k .from-left, k .to-right, add-mul i 1 dots) in
+      rw (le-leb line y (k .from-top), lt-ltb y (line + dots) (k .to-bottom))
+      (ink-at row dots from x (x - from) (omega (arith, k .from-left)) ∙ rw (div-eq-of-lt-le dots a b) (c .set))
+
+  -- and where there is ink a dot is covered
+  covered-ink : (x y : ℕ) → cond (leb line y && ltb y (line + dots)) (ink row dots from x) 0 ≡ 1 → Covered row dots from line x y
+  covered-ink x y =
+      choice-by (λ n. n ≡ 1 → Covered row dots from line x y) (leb line y && ltb y (line + dots)) {a = ink row dots from x} {b = 0} found (λ t e. absurd (omega arith))
+    where
+      found : (leb line y && ltb y (line + dots)) ≡ true → ink row dots from x ≡ 1 → Covered row dots from line x y
+      found t e = ⊎-elim right (λ (k : x < from). absurd (omega (arith, e, no-ink row dots from x k))) (le-or-lt from x)
+        where
+          right : from ≤ x → Covered row dots from line x y
+          right k =
+              let a = and-true (leb line y) (ltb y (line + dots)) t in
+              let top = leb-true line y (a .0) in
+              let foot = ltb-true y (line + dots) (a .1) in
+              let low = div-mul-le-self (x - from) dots in
+              let over = lt-div-mul-add {a = x - from} {b = dots} (omega arith) in
+              record {
+                number = (x - from) / dots;
+                set = sym (ink-at row dots from x (x - from) (omega arith)) ∙ e;
+                inside = record { from-left = omega arith; to-right = omega arith; from-top = top; to-bottom = foot };
+              }
+
+  -- dot (x, y) is set exactly if it was set or the square of a set bit covers it
+  pub dot-rule : (x y : ℕ) → x < 8 * w → y < high → DotRule w row dots from line page (painted w row dots from line page) x y
+  dot-rule x y l h = record {
+    stays = λ e. dot-both x y l h ∙ omega (arith, small);
+    becomes = λ c. dot-both x y l h ∙ omega (arith, ink-covered x y c, dot-lt page (8 * (y * w) + x));
+    only = λ e.
+        let q = sym (dot-both x y l h) ∙ e in
+        ⊎-elim (λ (k : 1 ≤ dotAt w page x y). inl (omega (arith, dot-lt page (8 * (y * w) + x)))) (λ (k : dotAt w page x y < 1). inr (covered-ink x y (omega arith))) (le-or-lt 1 (dotAt w page x y));
+  }
+    where
+      small : cond (leb line y && ltb y (line + dots)) (ink row dots from x) 0 < 2
+      small = choice (λ n. n < 2) (leb line y && ltb y (line + dots)) (ink-lt row dots from x) (omega arith)
