@@ -1,7 +1,7 @@
 -- What text, control codes and two-byte commands do to pen, stack and seed row. Assumes nothing.
 use Prim.{tt}
 use mathlib.Core.Path.{_≡_, refl}
-use mathlib.Core.Bool.{Bool, true, false, cond, not, _||_}
+use mathlib.Core.Bool.{Bool, true, false, cond}
 use mathlib.Core.List.{List}
 use Prim.Native.Nat.{ℕ, _+_}
 use native.Mathlib.Omega.{arith}
@@ -31,8 +31,8 @@ use Rattle.do_short.specs.declared.Escaping.the-variants as escaping
 use Rattle.do_deed.specs.Acted.{acted}
 use Rattle.do_short.specs.Meant.{codeOf, escapeOf, isCommand}
 use Rattle.rules.specs.declared.Layout.{Layout}
-use Rattle.do_text.specs.Cursor.{typedSpot}
-use Rattle.do_text.proofs.Typing.{typed-parts}
+use Rattle.do_text.specs.Cursor.{typedPen}
+use Rattle.do_text.proofs.Typing.{typed-core}
 use Rattle.do_code.specs.Moved.{Moved}
 use Rattle.state_pen.specs.declared.Pen.{Pen}
 use Rattle.state_pen.specs.Pens.{penOf, coreOf}
@@ -129,9 +129,8 @@ module _ (g : Measure) (p : Pen) (m : Beside) where
   escape-other b x s r e f h = nothing g p m (λ (c : Core). meanTwo g b c m) NotCarried r (λ c. escape-is g b x escaping.NotCarried e f c m) h s
 
   -- a space or a text byte
-  pub text-deed : (b : ℕ) (at : Spot) (u : Bool) (r : Deed) → at ≡ typedSpot g (p .at) (p .layout) → u ≡ (p .used || not (eqb b 32)) → r ≡ deedOf (penWith at (p .layout) (p .raster) u (p .depth)) m Nothing false Kept
-      → (s : List ℕ) → DeedFor g (λ (c : Core). mean g (rule.text b) c m) p s r s
-  text-deed b at u r e f h s page = rw h (record { acted = λ l. text-done g b (coreOf p l s) (coreOf (penWith at (p .layout) (p .raster) u (p .depth)) l s) m (typed-parts g b (coreOf p l s) at u e f) page; placed = tt })
+  pub text-deed : (b : ℕ) (n : Pen) (r : Deed) → n ≡ typedPen g p b → r ≡ deedOf n m Nothing false Kept → (s : List ℕ) → DeedFor g (λ (c : Core). mean g (rule.text b) c m) p s r s
+  text-deed b n r e h s page = rw h (record { acted = λ l. text-done g b (coreOf p l s) (coreOf n l s) m (typed-core g b p n l s e) page; placed = tt })
 
   -- an item that a `match` has told
   pub bytes-told : (i j : Item) (b : List ℕ) (r : Deed) (b′ s : List ℕ) → i ≡ j → DeedFor g (λ (c : Core). mean g (itemIn s j) c m) p b r b′ → DeedFor g (λ (c : Core). mean g (itemIn s i) c m) p b r b′

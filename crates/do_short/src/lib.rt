@@ -19,8 +19,7 @@ use do_code::half_line;
 use do_deed::Deed;
 use do_deed::Stacking;
 use do_deed::kept;
-use do_text::marked;
-use do_text::typed_at;
+use do_text::typed_pen;
 use read_item::Item;
 use rules::Beside;
 use rules::Code;
@@ -181,13 +180,7 @@ fn do_text(g: Measure, b: u8, p: Pen, m: Beside) -> Deed
     requires { ⌜ Bounded g ⌝ }
     ensures { λ r. ⌜ ((s : List ℕ) → DeedFor g (λ (c : Core). mean g (text b) c m) p s r s) ⌝ }
 {
-    let from = p.at;
-    let layout = p.layout;
-    let at = typed_at(g, from, layout);
-    let used = marked(p.used, b);
-    let mut pen = p;
-    pen.at = at;
-    pen.used = used;
+    let pen = typed_pen(g, p, b);
     kept(Finding::Nothing, pen, m)
 }
 

@@ -13,21 +13,23 @@ use Rattle.rules.specs.declared.Core.{Core}
 use Rattle.rules.specs.Measure.{LW, intoWidth, spot}
 use Rattle.rules.specs.States.{withAt, withUsed}
 use Rattle.rules.specs.Codes.{typed, typedAll}
-use Rattle.do_text.specs.Cursor.{forwardSpot, typedSpot, TypedAll}
-
--- the cursor of `typed` is that of `typedSpot`
-pub typed-spot : (g : Measure) (b : ℕ) (c : Core) → typed g b c .at ≡ typedSpot g (c .at) (c .layout)
-unfolding typed
-typed-spot g b c = refl
+use Rattle.state_pen.specs.declared.Pen.{Pen}
+use Rattle.state_pen.specs.Pens.{coreOf}
+use Rattle.do_text.specs.Cursor.{forwardSpot, typedSpot, typedPen, TypedAll}
 
 -- a move forward, step by step: where it stops, how far it goes, and where that is in the page
 pub forward-spot : (g : Measure) (n : ℕ) (p : Spot) (l : Layout) (stop m x : ℕ) → stop ≡ cond (leb (p .x) (l .right)) (l .right) (LW g) → m ≡ min n stop → x ≡ intoWidth g m → spot x (p .y) ≡ forwardSpot g n p l
 forward-spot g n p l stop m x e f h = rw (h, f, e)
 
--- the cursor and the flag behind a byte
-pub typed-parts : (g : Measure) (b : ℕ) (c : Core) (p : Spot) (u : Bool) → p ≡ typedSpot g (c .at) (c .layout) → u ≡ (c .used || not (eqb b 32)) → withUsed u (withAt p c) ≡ typed g b c
+-- a pen whose cursor and flag were set as by a byte
+pub pen-typed : (g : Measure) (b : ℕ) (n : Pen) (at : Spot) (u : Bool) → at ≡ typedSpot g (n .at) (n .layout) → u ≡ (n .used || not (eqb b 32))
+    → record { at = at; layout = n .layout; raster = n .raster; used = u; depth = n .depth } ≡ typedPen g n b
+pen-typed g b n at u e f = rw (e, f)
+
+-- the core of a pen behind a byte is what the rules type
+pub typed-core : (g : Measure) (b : ℕ) (n n′ : Pen) (l : List Spot) (seed : List ℕ) → n′ ≡ typedPen g n b → coreOf n′ l seed ≡ typed g b (coreOf n l seed)
 unfolding typed
-typed-parts g b c p u e f = rw (e, f)
+typed-core g b n n′ l seed e = rw e
 
 -- text so far leaves the cursor at p and the page used or not; what is left of it makes the whole
 abbrev pub Typing : Measure → List ℕ → Spot → Layout → Bool → Spot → Bool → ℕ → Type 0

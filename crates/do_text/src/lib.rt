@@ -5,13 +5,14 @@ ghost use mathlib.Core.Bool.{cond, not, _||_};
 ghost use Prim.Native.Nat.{_≤_};
 ghost use lib.Dec.{eqb, leb};
 ghost use Rattle.rules.specs.Measure.{Bounded, LW};
-ghost use Rattle.do_text.specs.Cursor.{forwardSpot, typedSpot, TypedAll};
+ghost use Rattle.do_text.specs.Cursor.{forwardSpot, typedSpot, typedPen, TypedAll};
 use common::least;
 use rules::Layout;
 use rules::Measure;
 use rules::Spot;
 use state_page::into_width;
 use state_page::width;
+use state_pen::Pen;
 
 // Where a move forward stops: R if x ≤ R, else LW.
 fn stop_at(g: Measure, x: u32, right: u32) -> u32
@@ -33,7 +34,7 @@ pub fn forward_at(g: Measure, n: u64, at: Spot, l: Layout) -> Spot
 }
 
 // The cursor behind a space or a text byte.
-pub fn typed_at(g: Measure, at: Spot, l: Layout) -> Spot
+fn typed_at(g: Measure, at: Spot, l: Layout) -> Spot
     requires { ⌜ Bounded g ⌝ }
     ensures { λ r. ⌜ r ≡ typedSpot g at l ⌝ }
 {
@@ -41,10 +42,25 @@ pub fn typed_at(g: Measure, at: Spot, l: Layout) -> Spot
 }
 
 // Whether the page is used behind this byte: all but a space mark it.
-pub fn marked(used: bool, b: u8) -> bool
+fn marked(used: bool, b: u8) -> bool
     ensures { λ r. ⌜ r ≡ (used || not (eqb b 32)) ⌝ }
 {
     if used { true } else { b != 32 }
+}
+
+// The pen behind a space or a text byte: the cursor moves, and the page is used or not.
+pub fn typed_pen(g: Measure, p: Pen, b: u8) -> Pen
+    requires { ⌜ Bounded g ⌝ }
+    ensures { λ r. ⌜ r ≡ typedPen g p b ⌝ }
+{
+    let from = p.at;
+    let layout = p.layout;
+    let at = typed_at(g, from, layout);
+    let used = marked(p.used, b);
+    let mut pen = p;
+    pen.at = at;
+    pen.used = used;
+    pen
 }
 
 // Where text leaves the cursor, and whether the page is then used.

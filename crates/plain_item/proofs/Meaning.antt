@@ -31,16 +31,15 @@ use Rattle.rules.specs.Commands.{printSpelled, rowSpelled, whole, useOf, usedVa
 use Rattle.rules.specs.Rows.{decoded}
 use Rattle.rules.specs.Codes.{codeByte, escapeByte}
 use Rattle.rules.specs.Items as rule
-use Rattle.rules.specs.Acts.{type, control, escape, order, print, draw, drawn, next, nextAll, besideAfter, bar, gate, Meaning, meaning, nothingDone, seedNow, meanCode, meanTwo, meanRow, meanCommand, mean}
+use Rattle.rules.specs.Acts.{Act, type, control, escape, order, print, draw, drawn, next, nextAll, besideAfter, bar, gate, Meaning, meaning, nothingDone, seedNow, meanCode, meanTwo, meanRow, meanCommand, mean}
 use Rattle.rules.specs.Plain.{put, putAll}
 use Rattle.theorems.specs.Facts.{Shaped}
 use Rattle.theorems.proofs.Lengths.{seed-long, decoded-length}
 use Rattle.plain_head.specs.Heads.{headOf}
 use Rattle.plain_head.proofs.Heads.{print-append, row-append}
 use Rattle.plain_command.proofs.Writing.{order-append}
-use Rattle.plain_short.specs.Bytes.{carriedCodes, plainBytes}
+use Rattle.plain_short.specs.Bytes.{carriedCodes, plainCode}
 use Rattle.plain_item.specs.Plain.{plainCommand, plainItem}
-use Rattle.read_item.specs.declared.Item.the-variants as found
 
 -- a head and a payload, and what stands behind
 counted-behind : (h t s x y : List ℕ) → x ≡ h ++ (t ++ s) → y ≡ h ++ (t ++ []) → x ≡ y ++ s
@@ -52,23 +51,33 @@ print-behind p s = counted-behind (headOf printSpelled (length p)) p s (put (pri
 row-behind : (r s : List ℕ) → put (draw r) s ≡ put (draw r) [] ++ s
 row-behind r s = counted-behind (headOf rowSpelled (length (trim r))) (trim r) s (put (draw r) s) (put (draw r) []) (row-append r s) (row-append r [])
 
+-- what an act is written as, and what stands behind
+pub put-behind : (a : Act) (s : List ℕ) → put a s ≡ put a [] ++ s
+unfolding put
+put-behind (type b) s = refl
+put-behind (control k) s = refl
+put-behind (escape k) s = refl
+put-behind (order k v) s = order-append k v s
+put-behind (print p) s = print-behind p s
+put-behind (draw r) s = row-behind r s
+
 module _ (g : Measure) (c : Core) (m : Beside) (s : List ℕ) where
   -- what the acts of a meaning are written as, before s
   abbrev Tells : List ℕ → Meaning → Type 0
   Tells w o = putAll (o .acts) s ≡ w ++ s
 
-  code-gate : (b : ℕ) (k : Code) → eqb b (codeByte k) ≡ true → oneOf carriedCodes (codeByte k) ≡ true → Tells (plainBytes (found.Code b) Nothing) (gate g (control k) c m)
+  code-gate : (b : ℕ) (k : Code) → eqb b (codeByte k) ≡ true → oneOf carriedCodes (codeByte k) ≡ true → Tells (plainCode b) (gate g (control k) c m)
   unfolding gate bar putAll put
   code-gate b k e h = rw (eqb-true b (codeByte k) e, h)
 
-  code-tells : (b : ℕ) → Tells (plainBytes (found.Code b) Nothing) (meanCode g b c m)
+  code-tells : (b : ℕ) → Tells (plainCode b) (meanCode g b c m)
   unfolding meanCode putAll
   code-tells b =
-      choice-by (Tells (plainBytes (found.Code b) Nothing)) (eqb b (codeByte CarriageReturn)) (λ e. code-gate b CarriageReturn e refl)
-      (λ e1. choice-by (Tells (plainBytes (found.Code b) Nothing)) (eqb b (codeByte LineFeed)) (λ e. code-gate b LineFeed e refl)
-      (λ e2. choice-by (Tells (plainBytes (found.Code b) Nothing)) (eqb b (codeByte FormFeed)) (λ e. code-gate b FormFeed e refl)
-      (λ e3. choice-by (Tells (plainBytes (found.Code b) Nothing)) (eqb b (codeByte Backspace)) (λ e. code-gate b Backspace e refl)
-      (λ e4. choice-by (Tells (plainBytes (found.Code b) Nothing)) (eqb b (codeByte Tab)) (λ e. code-gate b Tab e refl)
+      choice-by (Tells (plainCode b)) (eqb b (codeByte CarriageReturn)) (λ e. code-gate b CarriageReturn e refl)
+      (λ e1. choice-by (Tells (plainCode b)) (eqb b (codeByte LineFeed)) (λ e. code-gate b LineFeed e refl)
+      (λ e2. choice-by (Tells (plainCode b)) (eqb b (codeByte FormFeed)) (λ e. code-gate b FormFeed e refl)
+      (λ e3. choice-by (Tells (plainCode b)) (eqb b (codeByte Backspace)) (λ e. code-gate b Backspace e refl)
+      (λ e4. choice-by (Tells (plainCode b)) (eqb b (codeByte Tab)) (λ e. code-gate b Tab e refl)
       (λ e5. rw (e1, e2, e3, e4, e5))))))
 
   -- what a meaning tells by its finding

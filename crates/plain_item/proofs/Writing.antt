@@ -1,5 +1,4 @@
 -- Commands and items written as far as there is room, counted all the same. Assumes nothing.
-use Prim.{tt}
 use mathlib.Core.Path.{_≡_, ap, _∙_}
 use mathlib.Core.Bool.{Bool, true, false}
 use mathlib.Core.List.{List, [], _∷_, _++_, append-nil}
@@ -7,10 +6,8 @@ use Prim.Native.Nat.{ℕ, _+_, _-_, _≤_}
 use native.Mathlib.Omega.{arith}
 use lib.ListN.{length, length-append, length-take, take, drop}
 use lib.Seq.{sets, take-all}
-use denote.Enum.Declared.{tagOf}
-use types.Run.{OneOf, miss}
 use Rattle.common.specs.Choice.{oneOf}
-use Rattle.common.specs.Stores.{Wrote}
+use Rattle.common.specs.Stores.{Wrote, Puts}
 use Rattle.common.specs.Lists.{trim}
 use Rattle.common.proofs.Choices.{choice}
 use Rattle.common.proofs.Stores.{sets-then}
@@ -26,14 +23,12 @@ use Rattle.rules.specs.Plain.{put}
 use Rattle.read_item.specs.declared.Item.{Item}
 use Rattle.read_item.specs.declared.Item.the-variants as found
 use Rattle.read_item.specs.Items.{itemIn, fromOf, toOf}
-use Rattle.read_item.proofs.Item.{the-type}
-use Rattle.read_item.proofs.Items.{otherItems}
 use Rattle.plain_length.specs.Counts.{Counted}
 use Rattle.plain_head.specs.Heads.{headOf, HeadLength}
 use Rattle.plain_head.proofs.Heads.{print-append, row-append}
 use Rattle.plain_item.specs.Plain.{PutsShort, plainCommand, plainItem}
 use Rattle.plain_item.proofs.Trimming.{trim-take}
-use Rattle.plain_short.specs.Bytes.{Puts, carriedCodes, plainBytes}
+use Rattle.plain_short.specs.Bytes.{carriedCodes, plainCode, plainTwo}
 use Rattle.plain_short.proofs.Bytes.{puts-none, puts-out}
 
 -- an act's text is few bytes
@@ -111,19 +106,28 @@ module _ {l l' : List ℕ} {at r : ℕ} where
   unfolding plainItem
   item-command s i k from to f row e q = rw e q
 
-  pub item-bytes : (s : List ℕ) (i : Item) (f : Finding) (row : List ℕ) → OneOf otherItems (tagOf the-type i) → Puts l at (plainBytes i f) l' r → PutsShort l at (plainItem (itemIn s i) f row) l' r
+  pub item-text : (s : List ℕ) (i : Item) (b : ℕ) (f : Finding) (row : List ℕ) → i ≡ found.Text b → Puts l at (b ∷ []) l' r → PutsShort l at (plainItem (itemIn s i) f row) l' r
   unfolding plainItem
-  item-bytes s (found.Text b) f row o p = record { puts = p; small = omega (arith, p .next) }
-  item-bytes s (found.Code b) f row o p =
+  item-text s i b f row e p = rw e (record { puts = p; small = omega (arith, p .next) })
+
+  pub item-code : (s : List ℕ) (i : Item) (b : ℕ) (f : Finding) (row : List ℕ) → i ≡ found.Code b → Puts l at (plainCode b) l' r → PutsShort l at (plainItem (itemIn s i) f row) l' r
+  unfolding plainItem
+  item-code s i b f row e p =
       let n = choice (λ (w : List ℕ). length w ≤ 1) (oneOf carriedCodes b) {a = b ∷ []} {b = []} (omega arith) (omega arith) in
-      record { puts = p; small = omega (arith, p .next) }
-  item-bytes s (found.Two b) f row o p =
+      rw e (record { puts = p; small = omega (arith, p .next) })
+
+  pub item-two : (s : List ℕ) (i : Item) (b : ℕ) (f : Finding) (row : List ℕ) → i ≡ found.Two b → Puts l at (plainTwo b f) l' r → PutsShort l at (plainItem (itemIn s i) f row) l' r
+  unfolding plainItem
+  item-two s i b f row e p =
       let n = choice (λ (w : List ℕ). length w ≤ 2) (isClean f) {a = 27 ∷ b ∷ []} {b = []} (omega arith) (omega arith) in
-      record { puts = p; small = omega (arith, p .next) }
-  item-bytes s (found.Command k from to) f row o p = absurd (miss otherItems 3 tt o)
-  item-bytes s (found.Broken x) f row o p = record { puts = p; small = omega (arith, p .next) }
+      rw e (record { puts = p; small = omega (arith, p .next) })
 
 module _ (l : List ℕ) (at : ℕ) where
+  -- a broken piece
+  pub item-broken : (s : List ℕ) (i : Item) (x f : Finding) (row : List ℕ) → i ≡ found.Broken x → PutsShort l at (plainItem (itemIn s i) f row) l at
+  unfolding plainItem
+  item-broken s i x f row e = rw e (short-none l at)
+
   -- a command with a finding
   pub valued-none : (k : Kind) (v : Value) (f : Finding) (x : Bool) → x ≡ isClean f → x ≡ false → (p row : List ℕ) → PutsShort l at (plainCommand (Valued k v) p f row) l at
   unfolding plainCommand

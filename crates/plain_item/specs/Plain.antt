@@ -1,6 +1,6 @@
 -- What an item comes to in the plain stream: from the item, its finding, and the row that it left as seed row.
 use mathlib.Core.Bool.{cond}
-use mathlib.Core.List.{List, []}
+use mathlib.Core.List.{List, [], _∷_}
 use Prim.Native.Nat.{ℕ, _+_, _≤_}
 use Rattle.rules.specs.declared.Command.{Command}
 use Rattle.rules.specs.declared.Command.the-variants.{Valued, Method, Print, Row, Unknown}
@@ -10,10 +10,10 @@ use Rattle.rules.specs.Commands.{whole, useOf, usedValue, isNegative}
 use Rattle.rules.specs.Items as rule
 use Rattle.rules.specs.Acts.{order, print, draw}
 use Rattle.rules.specs.Plain.{put}
-use Rattle.read_item.specs.declared.Item.the-variants as found
-use Rattle.plain_short.specs.Bytes.{Puts, plainBytes}
+use Rattle.common.specs.Stores.{Puts}
+use Rattle.plain_short.specs.Bytes.{plainCode, plainTwo}
 
--- bytes written that are few: a payload and what stands before it
+-- `Puts` of few bytes: a payload and what stands before it
 pub record PutsShort (before : List ℕ) (n : ℕ) (w after : List ℕ) (r : ℕ) : Type 0 where
   pub puts : Puts before n w after r
   pub small : r ≤ n + 32791
@@ -27,10 +27,10 @@ plainCommand (Print v) p f row = cond (isNegative whole v) [] (put (print p) [])
 plainCommand (Row v) p f row = cond (isNegative whole v) [] (put (draw row) [])
 plainCommand Unknown p f row = []
 
--- of any item
+-- "text, codes and two-byte commands as they are"; "items with findings 1 to 6 .. are dropped", as each broken piece is
 unfoldable pub plainItem : rule.Item → Finding → List ℕ → List ℕ
-plainItem (rule.text b) f row = plainBytes (found.Text b) f
-plainItem (rule.code b) f row = plainBytes (found.Code b) f
-plainItem (rule.two b) f row = plainBytes (found.Two b) f
+plainItem (rule.text b) f row = b ∷ []
+plainItem (rule.code b) f row = plainCode b
+plainItem (rule.two b) f row = plainTwo b f
 plainItem (rule.command k p) f row = plainCommand k p f row
 plainItem (rule.broken x) f row = []

@@ -20,7 +20,9 @@ use plain_command::write_command;
 use plain_head::head_length;
 use plain_head::write_print_head;
 use plain_head::write_row_head;
-use plain_short::write_bytes;
+use plain_short::write_code;
+use plain_short::write_escape;
+use plain_short::write_one;
 use read_item::Item;
 use row_piece::copy;
 use rules::Command;
@@ -129,8 +131,13 @@ pub fn write_item(s: &[u8], i: Item, f: Finding, row: &[u8], room: &mut [u8], at
     requires { ⌜ (fromOf i ≤ toOf i) × (toOf i ≤ length (now s)) × (toOf i ≤ fromOf i + 32767) × (length (now row) ≤ 600) × (at ≤ 1099511627775) ⌝ }
     ensures { λ r. ⌜ PutsShort (now (room .entry)) at (plainItem (itemIn (now (s .entry)) i) f (now (row .entry))) (now (room .exit)) r ⌝ }
 {
-    let Item::Command { command, from, to } = i else {
-        return write_bytes(i, f, room, at);
-    };
-    write_whole(command, &s[from..to], f, row, room, at)
+    match i {
+        Item::Text(b) => write_one(b, room, at),
+        Item::Code(b) => write_code(b, room, at),
+        Item::Two(b) => write_escape(b, f, room, at),
+        Item::Command { command, from, to } => {
+            write_whole(command, &s[from..to], f, row, room, at)
+        }
+        Item::Broken(_) => at,
+    }
 }

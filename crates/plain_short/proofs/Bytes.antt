@@ -9,9 +9,8 @@ use Rattle.common.specs.Choice.{oneOf}
 use Rattle.common.proofs.Stores.{sets-out, sets-then}
 use Rattle.rules.specs.declared.Finding.{Finding}
 use Rattle.rules.specs.Findings.{isClean}
-use Rattle.read_item.specs.declared.Item.{Item}
-use Rattle.read_item.specs.declared.Item.the-variants as found
-use Rattle.plain_short.specs.Bytes.{Puts, carriedCodes, plainBytes}
+use Rattle.common.specs.Stores.{Puts}
+use Rattle.plain_short.specs.Bytes.{carriedCodes, plainCode, plainTwo}
 
 -- nothing is written
 pub puts-none : (l : List ℕ) (n : ℕ) → Puts l n [] l n
@@ -36,22 +35,18 @@ module _ {l l' l'' : List ℕ} {n m r : ℕ} where
 
 module _ {l l' : List ℕ} {at r : ℕ} where
   -- a control code that does something
-  pub code-put : (b : ℕ) (x : Bool) → x ≡ oneOf carriedCodes b → x ≡ true → Puts l at (b ∷ []) l' r → (f : Finding) → Puts l at (plainBytes (found.Code b) f) l' r
-  code-put b x e h p f = rw (← e, h) p
+  pub code-put : (b : ℕ) (x : Bool) → x ≡ oneOf carriedCodes b → x ≡ true → Puts l at (b ∷ []) l' r → Puts l at (plainCode b) l' r
+  code-put b x e h p = rw (← e, h) p
 
   -- a two-byte command that is carried
-  pub escape-put : (b : ℕ) (f : Finding) (x : Bool) → x ≡ isClean f → x ≡ true → Puts l at (27 ∷ b ∷ []) l' r → Puts l at (plainBytes (found.Two b) f) l' r
+  pub escape-put : (b : ℕ) (f : Finding) (x : Bool) → x ≡ isClean f → x ≡ true → Puts l at (27 ∷ b ∷ []) l' r → Puts l at (plainTwo b f) l' r
   escape-put b f x e h p = rw (← e, h) p
-
-  -- an item that a `match` has told
-  pub bytes-told : (i j : Item) (f : Finding) → i ≡ j → Puts l at (plainBytes j f) l' r → Puts l at (plainBytes i f) l' r
-  bytes-told i j f e p = rw e p
 
 module _ (l : List ℕ) (at : ℕ) where
   -- an ignored code
-  pub code-none : (b : ℕ) (x : Bool) → x ≡ oneOf carriedCodes b → x ≡ false → (f : Finding) → Puts l at (plainBytes (found.Code b) f) l at
-  code-none b x e h f = rw (← e, h) (puts-none l at)
+  pub code-none : (b : ℕ) (x : Bool) → x ≡ oneOf carriedCodes b → x ≡ false → Puts l at (plainCode b) l at
+  code-none b x e h = rw (← e, h) (puts-none l at)
 
   -- a two-byte command with a finding
-  pub escape-none : (b : ℕ) (f : Finding) (x : Bool) → x ≡ isClean f → x ≡ false → Puts l at (plainBytes (found.Two b) f) l at
+  pub escape-none : (b : ℕ) (f : Finding) (x : Bool) → x ≡ isClean f → x ≡ false → Puts l at (plainTwo b f) l at
   escape-none b f x e h = rw (← e, h) (puts-none l at)

@@ -4,9 +4,9 @@ ghost use mathlib.Core.Path.{_≡_};
 ghost use mathlib.Core.List.{[], _∷_};
 ghost use Prim.Native.Nat.{_≤_};
 ghost use Rattle.common.specs.Choice.{oneOf};
-ghost use Rattle.plain_short.specs.Bytes.{Puts, carriedCodes, plainBytes};
+ghost use Rattle.common.specs.Stores.{Puts};
+ghost use Rattle.plain_short.specs.Bytes.{carriedCodes, plainCode, plainTwo};
 use number_finding::is_clean;
-use read_item::Item;
 use rules::Finding;
 
 // One byte, where there is room for it.
@@ -45,9 +45,9 @@ fn is_carried(b: u8) -> bool
 }
 
 // A control code, unless it is ignored.
-fn write_code(b: u8, room: &mut [u8], at: usize) -> usize
+pub fn write_code(b: u8, room: &mut [u8], at: usize) -> usize
     requires { ⌜ at ≤ 1099511627776 ⌝ }
-    ensures { λ r. ⌜ ((f : Finding) → Puts (now (room .entry)) at (plainBytes (Item.Code b) f) (now (room .exit)) r) ⌝ }
+    ensures { λ r. ⌜ Puts (now (room .entry)) at (plainCode b) (now (room .exit)) r ⌝ }
 {
     if is_carried(b) {
         write_one(b, room, at)
@@ -57,31 +57,13 @@ fn write_code(b: u8, room: &mut [u8], at: usize) -> usize
 }
 
 // A two-byte command, unless it has a finding.
-fn write_escape(b: u8, f: Finding, room: &mut [u8], at: usize) -> usize
+pub fn write_escape(b: u8, f: Finding, room: &mut [u8], at: usize) -> usize
     requires { ⌜ at ≤ 1099511627775 ⌝ }
-    ensures { λ r. ⌜ Puts (now (room .entry)) at (plainBytes (Item.Two b) f) (now (room .exit)) r ⌝ }
+    ensures { λ r. ⌜ Puts (now (room .entry)) at (plainTwo b f) (now (room .exit)) r ⌝ }
 {
     if is_clean(f) {
         write_two(b, room, at)
     } else {
         at
-    }
-}
-
-// An item that is no command.
-pub fn write_bytes(i: Item, f: Finding, room: &mut [u8], at: usize) -> usize
-    requires { ⌜ at ≤ 1099511627775 ⌝ }
-    ensures { λ r. ⌜ Puts (now (room .entry)) at (plainBytes i f) (now (room .exit)) r ⌝ }
-{
-    match i {
-        Item::Text(b) => write_one(b, room, at),
-        Item::Code(b) => write_code(b, room, at),
-        Item::Two(b) => write_escape(b, f, room, at),
-        Item::Command {
-            command: _,
-            from: _,
-            to: _,
-        } => at,
-        Item::Broken(_) => at,
     }
 }

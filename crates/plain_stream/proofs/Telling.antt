@@ -1,13 +1,15 @@
 -- A stream written plain, item by item. Assumes nothing.
 use mathlib.Core.Path.{_≡_, refl, sym, ap, _∙_}
-use mathlib.Core.Bool.{Bool, true, false, not, _||_, false≢true}
+use mathlib.Core.Bool.{Bool, true, false, cond, false≢true}
 use mathlib.Core.List.{List, [], _∷_, _++_, append-nil, append-assoc}
 use Prim.Native.Nat.{ℕ, zero, suc, _+_, _*_, _-_, _≤_, _<_}
 use native.Mathlib.Omega.{arith}
-use native.Mathlib.Nat.{sub-zero}
-use lib.Dec.{eqb}
+use native.Mathlib.Nat.{add-zero, sub-zero}
+use lib.Dec.{ltb}
 use lib.ListN.{length, length-append, take, drop, getD}
 use lib.Seq.{length-sets}
+use borrow.Author.Tests.{ltb-true, lt-ltb, le-ltb}
+use Rattle.common.proofs.Choices.{choice}
 use Rattle.common.proofs.Places.{cut}
 use Rattle.rules.specs.declared.Measure.{Measure}
 use Rattle.rules.specs.declared.Sequence.{Sequence}
@@ -19,9 +21,9 @@ use Rattle.rules.specs.declared.Core.{Core}
 use Rattle.rules.specs.declared.Beside.{Beside}
 use Rattle.rules.specs.declared.State.{State}
 use Rattle.rules.specs.Sound.{sequenceSound}
-use Rattle.rules.specs.States.{stateOf, withAt, withUsed, afresh}
-use Rattle.rules.specs.Codes.{typed}
-use Rattle.rules.specs.Items.{isText, read}
+use Rattle.rules.specs.Measure.{longestStream}
+use Rattle.rules.specs.States.{stateOf, afresh}
+use Rattle.rules.specs.Items.{read}
 use Rattle.rules.specs.Items as rule
 use Rattle.rules.specs.Acts.{Act, mean, step, isClosed, over}
 use Rattle.rules.specs.Run.{trace, enough, wholeStream, actsOf, acts}
@@ -35,28 +37,66 @@ use Rattle.state_pen.specs.Pens.{penOf, coreOf}
 use Rattle.do_deed.specs.declared.Deed.{Deed}
 use Rattle.do_deed.specs.Acted.{Acted, actedOf, acted, ActedOn}
 use Rattle.do_deed.specs.Deeds.{wholeOf, DeedOn}
-use Rattle.do_deed.proofs.Acts.{text-done}
-use Rattle.do_text.specs.Cursor.{typedSpot}
+use Rattle.do_text.specs.Cursor.{typedPen}
 use Rattle.run_items.specs.Turns.{textNext, ItemDone}
-use Rattle.run_items.proofs.Turns.{item-done, over-not, pen-back, text-plain, text-told}
+use Rattle.run_items.proofs.Turns.{item-done, over-not, pen-back, text-told, text-at, text-acts}
 use Rattle.theorems.specs.Facts.{Fits, Shaped, SoundState}
 use Rattle.theorems.proofs.Reading.{left}
 use Rattle.theorems.proofs.Lengths.{fresh-shaped}
 use Rattle.theorems.proofs.Soundness.{fresh-sound}
 use Rattle.theorems.proofs.Streams.{step-shaped, step-left}
 use Rattle.theorems.proofs.Sound.{step-sound}
-use Rattle.plain_stream.specs.Walked.{Walked}
-use Rattle.plain_short.specs.Bytes.{Puts}
+use Rattle.theorems.proofs.Pages.{step-single}
+use Rattle.plain_stream.specs.Walked.{walkedFrom, walked}
+use Rattle.common.specs.Stores.{Puts}
 use Rattle.plain_item.specs.Plain.{PutsShort, plainItem}
 use Rattle.plain_short.proofs.Bytes.{puts-none, puts-both}
-use Rattle.plain_item.proofs.Meaning.{item-tells}
+use Rattle.plain_item.proofs.Meaning.{put-behind, item-tells}
 
--- acts behind acts
-putAll-append : (k l : List Act) (s : List ℕ) → putAll (k ++ l) s ≡ putAll k (putAll l s)
-unfolding putAll
-putAll-append [] l s = refl
-putAll-append (a ∷ k) l s = ap (put a) (putAll-append k l s)
+-- ---- what a walk writes
+-- nothing once it is beyond the most that are wanted
+walked-none : (most n : ℕ) (l : List Act) → most < n → walkedFrom most n l ≡ []
+unfolding walkedFrom
+walked-none most n [] h = refl
+walked-none most n (a ∷ l) h = rw (lt-ltb most n h)
 
+-- the bytes of an item, which has one act or none, and what comes behind it
+walked-item : (most n : ℕ) (k : List Act) (w : List ℕ) → n ≤ most → length k ≤ 1 → ((s : List ℕ) → putAll k s ≡ w ++ s) → (l : List Act) → walkedFrom most n (k ++ l) ≡ w ++ walkedFrom most (n + length w) l
+unfolding walkedFrom putAll
+walked-item most n [] w i h e l = let z : w ≡ [] = sym (e [] ∙ append-nil w) in rw (z, add-zero n)
+walked-item most n (a ∷ []) w i h e l = let z : put a [] ≡ w = e [] ∙ append-nil w in rw (le-ltb most n i, z)
+walked-item most n (a ∷ b ∷ k) w i h e l = absurd (omega arith)
+
+-- all of it where that is wanted
+walked-all : (most n : ℕ) (l : List Act) → n + length (walkedFrom most n l) ≤ most → walkedFrom most n l ≡ putAll l []
+unfolding walkedFrom putAll
+walked-all most n [] h = refl
+walked-all most n (a ∷ l) h = go (ltb most n) (walkedFrom most (n + length (put a [])) l) refl (λ k. walked-all most (n + length (put a [])) l k) h
+  where
+    go : (t : Bool) (more : List ℕ) → ltb most n ≡ t → ((n + length (put a [])) + length more ≤ most → more ≡ putAll l []) → n + length (cond t [] (put a [] ++ more)) ≤ most → cond t [] (put a [] ++ more) ≡ put a (putAll l [])
+    go true more e f k = absurd (omega (arith, ltb-true most n e))
+    go false more e f k = ap (λ (s : List ℕ). put a [] ++ s) (f (omega (arith, length-append (put a []) more))) ∙ sym (put-behind a (putAll l []))
+
+-- and no more than all of it
+walked-few : (most n : ℕ) (l : List Act) → length (walkedFrom most n l) ≤ length (putAll l [])
+unfolding walkedFrom putAll
+walked-few most n [] = omega arith
+walked-few most n (a ∷ l) =
+    choice (λ (w : List ℕ). length w ≤ length (put a (putAll l []))) (ltb most n) (omega arith)
+    (omega (arith, walked-few most (n + length (put a [])) l, length-append (put a []) (walkedFrom most (n + length (put a [])) l), ap length (put-behind a (putAll l [])), length-append (put a []) (putAll l [])))
+
+module _ (g : Measure) (most : ℕ) (s room after : List ℕ) (r : ℕ) (h : Puts room 0 (walked g most s) after r) where
+  -- what is written is the plain stream where it is no more than is wanted
+  pub walked-plain : r ≤ most → Puts room 0 (plain g s) after r
+  unfolding walked plain
+  walked-plain l = let n = h .next in rw (walked-all most 0 (acts g s) (omega arith)) at h
+
+  -- else the plain stream, too, is more than is wanted
+  pub walked-beyond : most < r → most < length (plain g s)
+  unfolding walked plain
+  walked-beyond l = omega (arith, h .next, walked-few most 0 (acts g s))
+
+-- ---- a stream under way
 module _ (g : Measure) (t : State) (s : List ℕ) where
   -- what is left tells nothing more at the end
   trace-over : (n : ℕ) → over t s ≡ true → trace g n t s .items ≡ []
@@ -74,11 +114,11 @@ module _ (g : Measure) (t : State) (s : List ℕ) where
 pub front-done : {room after : List ℕ} {at r : ℕ} (i : rule.Item) (f : Finding) (w : ℕ) (d : List ℕ) → PutsShort room at (plainItem i f (take (w - 0) (drop 0 d))) after r → PutsShort room at (plainItem i f (take w d)) after r
 front-done i f w d h = rw (sub-zero w) at h
 
--- a stream is under way: so much of its plain stream is written, and what is left of it tells the rest
-pub record Telling (g : Measure) (s before : List ℕ) (t : State) (at : ℕ) (room : List ℕ) (end : ℕ) : Type 0 where
+-- so much of what a walk writes is written, and what is left of the stream tells the rest
+pub record Telling (g : Measure) (most : ℕ) (s before : List ℕ) (t : State) (at : ℕ) (room : List ℕ) (end : ℕ) : Type 0 where
   pub written : List ℕ
   pub fuel : ℕ
-  pub all : plain g s ≡ written ++ putAll (actsOf (trace g fuel t (drop at s) .items)) []
+  pub all : walked g most s ≡ written ++ walkedFrom most end (actsOf (trace g fuel t (drop at s) .items))
   pub fuelled : left (t .sequence) (drop at s) ≤ fuel
   pub puts : Puts before 0 written room end
   pub few : end + 32791 * left (t .sequence) (drop at s) ≤ 32791 * (2 * length s + 1)
@@ -87,9 +127,9 @@ pub record Telling (g : Measure) (s before : List ℕ) (t : State) (at : ℕ) (r
   pub sound : SoundState g t
 
 -- before the first item
-telling-first : (g : Measure) (s room : List ℕ) (t : State) → Fits g → t ≡ afresh g → Telling g s room t 0 room 0
-unfolding plain acts wholeStream left afresh sequenceSound
-telling-first g s room t f e = let z : left (afresh g .sequence) (drop 0 s) ≡ 2 * length s = refl in rw e (record {
+telling-first : (g : Measure) (most : ℕ) (s room : List ℕ) (t : State) → Fits g → t ≡ afresh g → Telling g most s room t 0 room 0
+unfolding walked acts wholeStream left afresh sequenceSound
+telling-first g most s room t f e = let z : left (afresh g .sequence) (drop 0 s) ≡ 2 * length s = refl in rw e (record {
   written = [];
   fuel = enough s;
   all = refl;
@@ -107,31 +147,22 @@ no-bytes [] e = refl
 no-bytes (b ∷ l) e = absurd (omega arith)
 
 -- the room keeps its length
-pub telling-long : (g : Measure) (s before : List ℕ) (t : State) (at : ℕ) (room : List ℕ) (end : ℕ) → Telling g s before t at room end → length room ≡ length before
-telling-long g s before t at room end h = ap length (h .puts .held) ∙ length-sets before 0 (h .written)
+pub telling-long : (g : Measure) (most : ℕ) (s before : List ℕ) (t : State) (at : ℕ) (room : List ℕ) (end : ℕ) → Telling g most s before t at room end → length room ≡ length before
+telling-long g most s before t at room end h = ap length (h .puts .held) ∙ length-sets before 0 (h .written)
 
-module _ (g : Measure) (fit : Fits g) (s before : List ℕ) (t : State) (at : ℕ) (room : List ℕ) (end : ℕ) (h : Telling g s before t at room end) where
+module _ (g : Measure) (fit : Fits g) (most : ℕ) (s before : List ℕ) (t : State) (at : ℕ) (room : List ℕ) (end : ℕ) (h : Telling g most s before t at room end) where
   -- the place written at is small
-  pub telling-small : length s ≤ 1048576 → end ≤ 1099511627775
+  pub telling-small : length s ≤ longestStream → end ≤ 1099511627775
   telling-small l = let f = h .few in omega arith
 
-  -- what is written is the front of the plain stream
-  front : end ≤ length (plain g s)
-  front =
-      let k = h .puts .next in
-      rw (h .all) (omega (arith, length-append (h .written) (putAll (actsOf (trace g (h .fuel) t (drop at s) .items)) [])))
+  -- it ends where more is written than is wanted
+  pub telling-beyond : most < end → Puts before 0 (walked g most s) room end
+  telling-beyond l = rw (h .all, walked-none most end (actsOf (trace g (h .fuel) t (drop at s) .items)) l, append-nil (h .written)) (h .puts)
 
-  -- too much is to be written
-  pub telling-beyond : (most : ℕ) → most < end → Walked g s before most end room
-  telling-beyond most l = let f = front in record { whole = λ k. absurd (omega arith); beyond = λ k. omega arith }
-
-  -- at the end all is written
-  pub telling-over : (most : ℕ) (x : Bool) → x ≡ over t (drop at s) → x ≡ true → Walked g s before most end room
-  unfolding actsOf putAll
-  telling-over most x e f =
-      let z : plain g s ≡ h .written = rw (trace-over g t (drop at s) (h .fuel) (sym e ∙ f), append-nil (h .written)) at (h .all) in
-      let k = front in
-      record { whole = λ l. rw z (h .puts); beyond = λ l. omega arith }
+  -- and at the end of the stream
+  pub telling-over : (x : Bool) → x ≡ over t (drop at s) → x ≡ true → Puts before 0 (walked g most s) room end
+  unfolding actsOf walkedFrom
+  telling-over x e f = rw (h .all, trace-over g t (drop at s) (h .fuel) (sym e ∙ f), append-nil (h .written)) (h .puts)
 
   module _ (x : Bool) (e : x ≡ over t (drop at s)) (f : x ≡ false) (r : ReadItem) (a : Acted) (p after : List ℕ) (i : ItemAt s at (t .sequence) r)
       (d : ActedOn g (mean g (itemIn s (r .item)) (t .core) (t .beside)) (t .core) p a after) where
@@ -164,15 +195,16 @@ module _ (g : Measure) (fit : Fits g) (s before : List ℕ) (t : State) (at : �
         rw (m, done .left) (step-left g t (drop at s) not-over)
 
     -- behind an item: it was drawn on a page of no bytes, which lie before the room
-    telling-more : (none room′ : List ℕ) (end′ : ℕ) → length none ≡ 0 → PutsShort (none ++ room) end bytes room′ end′ → Telling g s before (stateOf (a .core) (a .beside) (r .sequence)) (r .next) room′ end′
-    telling-more none room′ end′ z y =
+    telling-more : end ≤ most → (none room′ : List ℕ) (end′ : ℕ) → length none ≡ 0 → PutsShort (none ++ room) end bytes room′ end′ → Telling g most s before (stateOf (a .core) (a .beside) (r .sequence)) (r .next) room′ end′
+    telling-more v none room′ end′ z y =
         let q : PutsShort room end bytes room′ end′ = rw (no-bytes none z) at y in
         let l = step-left g t (drop at s) not-over in
         let k = h .fuelled in
         let m = h .few in
         let rest = actsOf (trace g (h .fuel - 1) (step g t (drop at s) .state) (step g t (drop at s) .rest) .items) in
-        let u : plain g s ≡ (h .written ++ bytes) ++ putAll rest [] =
-        h .all ∙ rw (trace-more g t (drop at s) (h .fuel) (omega arith) not-over, putAll-append (step g t (drop at s) .done .acts) rest [], item-acts (putAll rest [])) (sym (append-assoc (h .written) bytes (putAll rest []))) in
+        let o = walked-item most end (step g t (drop at s) .done .acts) bytes v (step-single g t (drop at s)) item-acts rest in
+        let u : walked g most s ≡ (h .written ++ bytes) ++ walkedFrom most end′ rest =
+        h .all ∙ rw (trace-more g t (drop at s) (h .fuel) (omega arith) not-over, o, q .puts .next) (sym (append-assoc (h .written) bytes (walkedFrom most (end + length bytes) rest))) in
         rw (done .state) (record {
           written = h .written ++ bytes;
           fuel = h .fuel - 1;
@@ -185,41 +217,24 @@ module _ (g : Measure) (fit : Fits g) (s before : List ℕ) (t : State) (at : �
           sound = step-sound g fit t (drop at s) not-over (h .shaped) (h .sound);
         })
 
--- a space or a text byte, as it is read
-text-at : (s : List ℕ) (at : ℕ) → at < length s → isText (getD s at 0) ≡ true → ItemAt s at Closed (record { item = found.Text (getD s at 0); sequence = Closed; next = at + 1 })
-unfolding readAt read
-text-at s at l h =
-    let b = getD s at 0 in
-    let k = cut s at l in
-    let z = text-plain b h in
-    let r : read Closed (drop at s) ≡ rule.reading (rule.text b) Closed (drop (at + 1) s) = rw (k, z, h) in
-    let n : at + (length (drop at s) - length (drop (at + 1) s)) ≡ at + 1 = rw k (omega arith) in
-    record {
-      is = rw r (ap (λ (i : ℕ). record { item = found.Text b; sequence = Closed; next = i }) (sym n));
-      forward = omega arith;
-      inside = omega arith;
-      ordered = omega arith;
-      ended = omega arith;
-      counted = omega arith;
-      low = omega arith;
-    }
-
-module _ (g : Measure) (fit : Fits g) (s before : List ℕ) (c : Core) (m : Beside) (q : Sequence) (at : ℕ) (room : List ℕ) (end : ℕ) (h : Telling g s before (stateOf c m q) at room end) where
-  -- behind a space or a text byte: the cursor moved, the page is used or not
-  pub telling-text : (x : Bool) (to : Spot) (u : Bool) (room′ : List ℕ) (end′ : ℕ) → x ≡ textNext s at q → x ≡ true → to ≡ typedSpot g (c .at) (c .layout) → u ≡ (c .used || not (eqb (getD s at 0) 32))
-      → Puts room end (getD s at 0 ∷ []) room′ end′ → Telling g s before (stateOf (withUsed u (withAt to c)) m q) (at + 1) room′ end′
-  unfolding typed plainItem
-  telling-text x to u room′ end′ e f k j p =
+module _ (g : Measure) (fit : Fits g) (most : ℕ) (s before : List ℕ) (n : Pen) (k : List Spot) (seed : List ℕ) (m : Beside) (q : Sequence) (at : ℕ) (room : List ℕ) (end : ℕ)
+    (h : Telling g most s before (stateOf (coreOf n k seed) m q) at room end) where
+  -- behind a space or a text byte
+  pub telling-text : (x : Bool) (n′ : Pen) (room′ : List ℕ) (end′ : ℕ) → end ≤ most → x ≡ textNext s at q → x ≡ true → n′ ≡ typedPen g n (getD s at 0)
+      → Puts room end (getD s at 0 ∷ []) room′ end′ → Telling g most s before (stateOf (coreOf n′ k seed) m q) (at + 1) room′ end′
+  unfolding plainItem
+  telling-text x n′ room′ end′ w e f d p =
       let z = text-told s at q x e f in
-      let d : withUsed u (withAt to c) ≡ typed g (getD s at 0) c = rw (k, j) in
-      let n = p .next in
-      go q (z .closed) h (over-not s at q (z .inside)) (text-at s at (z .inside) (z .text)) (text-done g (getD s at 0) c (withUsed u (withAt to c)) m d []) (record { puts = p; small = omega arith })
+      let b = getD s at 0 in
+      let v = p .next in
+      go q (z .closed) h (over-not s at q (z .inside)) (text-at s at (z .inside) (z .text)) (text-acts g b n n′ k seed m [] d) (record { puts = p; small = omega arith })
     where
-      go : (r : Sequence) → r ≡ Closed → Telling g s before (stateOf c m r) at room end → false ≡ over (stateOf c m r) (drop at s) → ItemAt s at Closed (record { item = found.Text (getD s at 0); sequence = Closed; next = at + 1 })
-          → ActedOn g (mean g (rule.text (getD s at 0)) c m) c [] (actedOf (withUsed u (withAt to c)) m Nothing false) [] → PutsShort room end (getD s at 0 ∷ []) room′ end′
-          → Telling g s before (stateOf (withUsed u (withAt to c)) m r) (at + 1) room′ end′
+      go : (r : Sequence) → r ≡ Closed → Telling g most s before (stateOf (coreOf n k seed) m r) at room end → false ≡ over (stateOf (coreOf n k seed) m r) (drop at s)
+          → ItemAt s at Closed (record { item = found.Text (getD s at 0); sequence = Closed; next = at + 1 })
+          → ActedOn g (mean g (rule.text (getD s at 0)) (coreOf n k seed) m) (coreOf n k seed) [] (actedOf (coreOf n′ k seed) m Nothing false) [] → PutsShort room end (getD s at 0 ∷ []) room′ end′
+          → Telling g most s before (stateOf (coreOf n′ k seed) m r) (at + 1) room′ end′
       go Closed e h v i a q =
-          telling-more g fit s before (stateOf c m Closed) at room end h false v refl (record { item = found.Text (getD s at 0); sequence = Closed; next = at + 1 }) (actedOf (withUsed u (withAt to c)) m Nothing false) [] [] i a [] room′ end′ refl q
+          telling-more g fit most s before (stateOf (coreOf n k seed) m Closed) at room end h false v refl (record { item = found.Text (getD s at 0); sequence = Closed; next = at + 1 }) (actedOf (coreOf n′ k seed) m Nothing false) [] [] i a w [] room′ end′ refl q
       go (Open first group) e h v i a q = absurd (false≢true (ap isClosed e))
 
   -- less is left behind a text byte
@@ -232,16 +247,16 @@ module _ (g : Measure) (fit : Fits g) (s before : List ℕ) (c : Core) (m : Besi
       go (Open first group) l = rw (cut s at l) (omega arith)
 
 -- before the first item, where the state was taken apart
-pub telling-apart : (g : Measure) (s room : List ℕ) (t : State) (n : Pen) → Fits g → t ≡ afresh g → n ≡ penOf (t .core) → Telling g s room (stateOf (coreOf n (t .core .stack) (t .core .seed)) (t .beside) (t .sequence)) 0 room 0
-telling-apart g s room t n f e k = rw (pen-back n (t .core) k) (telling-first g s room t f e)
+pub telling-apart : (g : Measure) (most : ℕ) (s room : List ℕ) (t : State) (n : Pen) → Fits g → t ≡ afresh g → n ≡ penOf (t .core) → Telling g most s room (stateOf (coreOf n (t .core .stack) (t .core .seed)) (t .beside) (t .sequence)) 0 room 0
+telling-apart g most s room t n f e k = rw (pen-back n (t .core) k) (telling-first g most s room t f e)
 
 -- an item done on the parts of a core
-module _ (g : Measure) (fit : Fits g) (s before : List ℕ) (n : Pen) (l : List Spot) (seed : List ℕ) (m : Beside) (q : Sequence) (at : ℕ) (room : List ℕ) (end : ℕ) (h : Telling g s before (stateOf (coreOf n l seed) m q) at room end)
+module _ (g : Measure) (fit : Fits g) (most : ℕ) (s before : List ℕ) (n : Pen) (l : List Spot) (seed : List ℕ) (m : Beside) (q : Sequence) (at : ℕ) (room : List ℕ) (end : ℕ) (h : Telling g most s before (stateOf (coreOf n l seed) m q) at room end)
     (x : Bool) (e : x ≡ over (stateOf (coreOf n l seed) m q) (drop at s)) (f : x ≡ false) (r : ReadItem) (d : Deed) (p seed′ p′ : List ℕ) (i : ItemAt s at q r)
     (k : DeedOn g (λ (c : Core). mean g (itemIn s (r .item)) c m) n seed p d seed′ p′) where
   -- the seed row keeps its length
   pub deed-long : length seed′ ≡ 600
-  deed-long = telling-seed g fit s before (stateOf (coreOf n l seed) m q) at room end h x e f r (wholeOf n l seed′ d) p p′ i (k .acted l)
+  deed-long = telling-seed g fit most s before (stateOf (coreOf n l seed) m q) at room end h x e f r (wholeOf n l seed′ d) p p′ i (k .acted l)
 
   -- it holds a row
   pub deed-seed : g .wide ≤ length seed′
@@ -249,9 +264,9 @@ module _ (g : Measure) (fit : Fits g) (s before : List ℕ) (n : Pen) (l : List 
 
   -- less is left
   pub deed-less : left (r .sequence) (drop (r .next) s) < left q (drop at s)
-  deed-less = telling-less g fit s before (stateOf (coreOf n l seed) m q) at room end h x e f r (wholeOf n l seed′ d) p p′ i (k .acted l)
+  deed-less = telling-less g fit most s before (stateOf (coreOf n l seed) m q) at room end h x e f r (wholeOf n l seed′ d) p p′ i (k .acted l)
 
   -- behind it
-  pub telling-deed : (c : Core) → wholeOf n l seed′ d .core ≡ c → (none room′ : List ℕ) (end′ : ℕ) → length none ≡ 0 → PutsShort (none ++ room) end (plainItem (itemIn s (r .item)) (d .finding) (take (g .wide) seed′)) room′ end′
-      → Telling g s before (stateOf c (d .beside) (r .sequence)) (r .next) room′ end′
-  telling-deed c z none room′ end′ y w = rw (← z) (telling-more g fit s before (stateOf (coreOf n l seed) m q) at room end h x e f r (wholeOf n l seed′ d) p p′ i (k .acted l) none room′ end′ y w)
+  pub telling-deed : end ≤ most → (c : Core) → wholeOf n l seed′ d .core ≡ c → (none room′ : List ℕ) (end′ : ℕ) → length none ≡ 0 → PutsShort (none ++ room) end (plainItem (itemIn s (r .item)) (d .finding) (take (g .wide) seed′)) room′ end′
+      → Telling g most s before (stateOf c (d .beside) (r .sequence)) (r .next) room′ end′
+  telling-deed v c z none room′ end′ y w = rw (← z) (telling-more g fit most s before (stateOf (coreOf n l seed) m q) at room end h x e f r (wholeOf n l seed′ d) p p′ i (k .acted l) v none room′ end′ y w)

@@ -2,14 +2,15 @@
 // those of a run. Nothing is refused: a measure within 4,800 by 6,800 dots and a stream of at most 1,048,576 bytes are asked for.
 ghost use Prim.Native.Nat.{_+_, _≤_};
 ghost use lib.ListN.{length, take};
+ghost use Rattle.common.specs.Stores.{Puts};
+ghost use Rattle.rules.specs.Measure.{longestStream};
 ghost use Rattle.theorems.specs.Facts.{Fits};
 ghost use Rattle.read_item.specs.Items.{itemIn, fromOf, toOf};
 ghost use Rattle.plain_item.specs.Plain.{PutsShort, plainItem};
-ghost use Rattle.plain_stream.specs.Walked.{Walked};
+ghost use Rattle.plain_stream.specs.Walked.{walked};
 use do_deed::Stacking;
 use do_item::do_item;
-use do_text::marked;
-use do_text::typed_at;
+use do_text::typed_pen;
 use plain_item::write_item;
 use plain_short::write_one;
 use read_item::Item;
@@ -39,10 +40,10 @@ fn write_done(
 }
 
 // The stream walked from its start, afresh, to its end, as a run does it: text here, all else by `do_item`. What is drawn falls on a page of no bytes.
-// It ends early where more than `most` bytes are to be written.
+// It ends early, behind the item with which more than `most` bytes are written.
 pub fn write_stream(g: Measure, s: &[u8], room: &mut [u8], most: usize) -> usize
-    requires { ⌜ Fits g × (length (now s) ≤ 1048576) ⌝ }
-    ensures { λ r. ⌜ Walked g (now (s .entry)) (now (room .entry)) most r (now (room .exit)) ⌝ }
+    requires { ⌜ Fits g × (length (now s) ≤ longestStream) ⌝ }
+    ensures { λ r. ⌜ Puts (now (room .entry)) 0 (walked g most (now (s .entry))) (now (room .exit)) r ⌝ }
 {
     let t = afresh(g);
     let core = t.core;
@@ -58,12 +59,7 @@ pub fn write_stream(g: Measure, s: &[u8], room: &mut [u8], most: usize) -> usize
             return end;
         }
         if text_next(s, at, sequence) {
-            let from = pen.at;
-            let layout = pen.layout;
-            let to = typed_at(g, from, layout);
-            let used = marked(pen.used, s[at]);
-            pen.at = to;
-            pen.used = used;
+            pen = typed_pen(g, pen, s[at]);
             end = write_one(s[at], room, end);
             at += 1;
             continue;

@@ -20,8 +20,9 @@ use Rattle.rules.specs.Plain.{plain, refusedRoom, noRoom, translate}
 use Rattle.theorems.specs.Statements.{TranslatePromise}
 use Rattle.theorems.proofs.Theorems.{every-stream-has-a-plain-stream}
 use Rattle.common.proofs.Choices.{or-true-left, or-true-right, or-neither, le-or-lt}
-use Rattle.plain_stream.specs.Walked.{Walked}
-use Rattle.plain_stream.proofs.Telling.{no-bytes}
+use Rattle.common.specs.Stores.{Puts}
+use Rattle.plain_stream.specs.Walked.{walked}
+use Rattle.plain_stream.proofs.Telling.{no-bytes, walked-plain, walked-beyond}
 
 module _ (W H : ℕ) (stream room : List ℕ) (r : Translated) (x : Bool) (a : x ≡ allowed W H) where
   -- what a refusal gives
@@ -46,7 +47,7 @@ module _ (W H : ℕ) (stream room : List ℕ) (r : Translated) (x : Bool) (a : x
         promised room (rw (← a, not-false x a₁, z) (h room)) (rw (← a, not-false x a₁, z))
 
     module _ (c : length stream ≤ longestStream) (g : Measure) (m : g ≡ measureOf W H) (most : ℕ) (w : most ≡ min (length room) longestStream)
-        (none′ none : List ℕ) (n : ℕ) (k : Walked g stream none′ most n none) (z : length none ≡ 0) where
+        (none′ none : List ℕ) (n : ℕ) (k : Puts none′ 0 (walked g most stream) none n) (z : length none ≡ 0) where
       -- the length of the plain stream
       abbrev long : ℕ
       long = length (plain (measureOf W H) stream)
@@ -62,17 +63,17 @@ module _ (W H : ℕ) (stream room : List ℕ) (r : Translated) (x : Bool) (a : x
       unfolding translate
       no-room l h =
           let y = le-ltb longestStream (length stream) c in
-          let t = short (rw m at (k .beyond l)) in
+          let t = short (rw m at (walked-beyond g most stream none′ none n k l)) in
           rw (no-bytes none z) (promised room (rw (← a, not-false x a₁, y, t) (h room)) (rw (← a, not-false x a₁, y, t)))
 
       -- carried out: the room begins with the plain stream, and the rest of it is as it was
-      pub carried : n ≤ most → (after : List ℕ) (q : ℕ) → Walked g stream (none ++ room) most q after → r ≡ record { verdict = Carried; length = n } → TranslatePromise W H stream room r after
+      pub carried : n ≤ most → (after : List ℕ) (q : ℕ) → Puts (none ++ room) 0 (walked g most stream) after q → r ≡ record { verdict = Carried; length = n } → TranslatePromise W H stream room r after
       unfolding translate
       carried l after q p h =
           let y = le-ltb longestStream (length stream) c in
-          let e : n ≡ long = rw (m, zero-add) at (k .whole l .next) in
+          let e : n ≡ long = rw (m, zero-add) at (walked-plain g most stream none′ none n k l .next) in
           let t : noRoom (plain (measureOf W H) stream) room ≡ false = or-neither (ltb (length room) long) (ltb longestStream long) (le-ltb (length room) long (omega arith)) (le-ltb longestStream long (omega arith)) in
-          let i : q ≤ most = ⊎-elim (λ j. j) (λ j. let o : most < long = rw m at (p .beyond j) in absurd (omega arith)) (le-or-lt q most) in
-          let u : after ≡ sets room 0 (plain (measureOf W H) stream) = rw (m, no-bytes none z) at (p .whole i .held) in
+          let i : q ≤ most = ⊎-elim (λ j. j) (λ j. let o : most < long = rw m at (walked-beyond g most stream (none ++ room) after q p j) in absurd (omega arith)) (le-or-lt q most) in
+          let u : after ≡ sets room 0 (plain (measureOf W H) stream) = rw (m, no-bytes none z) at (walked-plain g most stream (none ++ room) after q p i .held) in
           let v = sets-eq (plain (measureOf W H) stream) room 0 (rw zero-add (omega arith)) in
           promised after (rw (← a, not-false x a₁, y, t) (h ∙ rw e)) (rw (← a, not-false x a₁, y, t) (u ∙ rw zero-add at v))

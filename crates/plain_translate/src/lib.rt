@@ -7,6 +7,7 @@ ghost use Rattle.rules.specs.Plain.{refusedRoom};
 ghost use Rattle.theorems.specs.Statements.{TranslatePromise};
 use common::least;
 use plain_stream::write_stream;
+use rules::LONGEST_STREAM;
 use rules::Refusal;
 use rules::Translated;
 use rules::Verdict;
@@ -30,11 +31,11 @@ pub fn translate(w: usize, h: usize, s: &[u8], room: &mut [u8]) -> Translated
     if !allowed(w, h) {
         return refuse(Refusal::PageMeasure);
     }
-    if 1048576 < s.len() {
+    if LONGEST_STREAM < s.len() {
         return refuse(Refusal::StreamLength);
     }
     let g = measure_of(w, h);
-    let most = least(room.len(), 1048576);
+    let most = least(room.len(), LONGEST_STREAM);
     let n = write_stream(g, s, &mut room[0..0], most);
     if most < n {
         return refuse(Refusal::Room);

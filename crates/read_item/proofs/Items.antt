@@ -9,7 +9,7 @@ use lib.Dec.{leb, ltb}
 use lib.ListN.{length, take, drop, getD, length-drop, length-take}
 use borrow.Author.Tests.{ne-eqb, le-leb, lt-leb}
 use Rattle.common.specs.Choice.{within}
-use Rattle.common.proofs.Choices.{within-in, within-over}
+use Rattle.common.proofs.Choices.{within-under}
 use Rattle.common.proofs.Places.{cut}
 use Rattle.rules.specs.declared.Value.{Value}
 use Rattle.rules.specs.declared.Sequence.{Sequence}
@@ -19,7 +19,7 @@ use Rattle.rules.specs.declared.Command.{Command}
 use Rattle.rules.specs.Number.{count}
 use Rattle.rules.specs.Commands.{chosen}
 use Rattle.rules.specs.Items as rule
-use Rattle.rules.specs.Items.{Reading, reading, endsInside, cannotStand, hasPayload, payload, letter, parameter, group, read}
+use Rattle.rules.specs.Items.{Reading, reading, endsInside, cannotStand, hasPayload, payload, letter, parameter, group, isText, read}
 use Rattle.read_number.specs.declared.ValueAt.{ValueAt}
 use Rattle.read_number.specs.Answers.{ReadAt}
 use Rattle.read_item.specs.declared.Item.the-variants as found
@@ -154,13 +154,20 @@ pub parameter-read : (s : List ℕ) (at f g : ℕ) (v : ValueAt) (r : ReadItem) 
 unfolding parameter
 parameter-read s at f g v r h a e = e ∙ ap (upTo (length s)) (ap₂ (letter f g) (a .is) (a .left h))
 
--- a text byte from 128 on
-pub text-high : (s : List ℕ) (at : ℕ) → at < length s → 128 ≤ getD s at 0 → getD s at 0 < 256
-    → record { item = found.Text (getD s at 0); sequence = Closed; next = at + 1 } ≡ upTo (length s) (read Closed (drop at s))
-unfolding read
-text-high s at h l u =
-    gives-text s at (read Closed (drop at s)) h (getD s at 0)
-    (rw (cut s at h, ne-eqb (getD s at 0) 27 (λ e. omega arith), within-over 32 126 (getD s at 0) (omega arith), within-in 128 255 (getD s at 0) l (omega arith)))
+-- a control code below space is no text
+pub text-low : (b : ℕ) → b < 32 → false ≡ isText b
+text-low b h = rw (within-under 32 126 b h, within-under 128 255 b (omega arith))
+
+module _ (s : List ℕ) (at : ℕ) (h : at < length s) (n : getD s at 0 ≡ 27 → ⊥) (x : Bool) (e : x ≡ isText (getD s at 0)) where
+  -- where no sequence is open, a byte that is text
+  pub afresh-text : x ≡ true → record { item = found.Text (getD s at 0); sequence = Closed; next = at + 1 } ≡ upTo (length s) (read Closed (drop at s))
+  unfolding read
+  afresh-text f = gives-text s at (read Closed (drop at s)) h (getD s at 0) (rw (cut s at h, ne-eqb (getD s at 0) 27 n, ← e, f))
+
+  -- and one that is neither text nor ESC
+  pub afresh-code : x ≡ false → record { item = found.Code (getD s at 0); sequence = Closed; next = at + 1 } ≡ upTo (length s) (read Closed (drop at s))
+  unfolding read
+  afresh-code f = gives-code s at (read Closed (drop at s)) h (getD s at 0) (rw (cut s at h, ne-eqb (getD s at 0) 27 n, ← e, f))
 
 module _ (s : List ℕ) (at : ℕ) (q : Sequence) (h : at < length s) where
   -- the beginning of an item where no sequence is open

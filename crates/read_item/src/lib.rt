@@ -11,7 +11,7 @@ use rules::Value;
 ghost use mathlib.Core.Path.{_≡_};
 ghost use Prim.Native.Nat.{_≤_, _<_};
 ghost use lib.ListN.{length, drop};
-ghost use Rattle.rules.specs.Items.{endsInside, payload, letter, parameter, group, behindEscape, read};
+ghost use Rattle.rules.specs.Items.{endsInside, payload, letter, parameter, group, behindEscape, isText, read};
 ghost use Rattle.read_item.specs.Items.{upTo, ItemAt, Begins};
 
 // An item: text, a control code, a two-byte command, a command whose payload lies in the stream, or a broken piece.
@@ -156,6 +156,16 @@ fn escape_at(s: &[u8], at: usize) -> Begun
     }
 }
 
+// Whether a byte is space or text where no sequence is open.
+pub fn is_text(b: u8) -> bool
+    ensures { λ r. ⌜ r ≡ isText b ⌝ }
+{
+    match b {
+        32..=126 | 128..=255 => true,
+        _ => false,
+    }
+}
+
 // Where no sequence is open: text, a code, or ESC and what is behind it.
 fn afresh_at(s: &[u8], at: usize) -> Begun
     requires { ⌜ at < length (now s) ⌝ }
@@ -165,16 +175,18 @@ fn afresh_at(s: &[u8], at: usize) -> Begun
     let next = at + 1;
     match b {
         27 => escape_at(s, next),
-        32..=126 | 128..=255 => Begun::Read(ReadItem {
-            item: Item::Text(b),
-            sequence: Sequence::Closed,
-            next,
-        }),
-        _ => Begun::Read(ReadItem {
-            item: Item::Code(b),
-            sequence: Sequence::Closed,
-            next,
-        }),
+        _ => {
+            let item = if is_text(b) {
+                Item::Text(b)
+            } else {
+                Item::Code(b)
+            };
+            Begun::Read(ReadItem {
+                item,
+                sequence: Sequence::Closed,
+                next,
+            })
+        }
     }
 }
 

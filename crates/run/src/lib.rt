@@ -15,6 +15,7 @@ ghost use Rattle.theorems.specs.Statements.{RunPromise};
 ghost use Rattle.run_items.specs.Turns.{RunsOn};
 use common::clear;
 use rules::Finding;
+use rules::LONGEST_STREAM;
 use rules::Measure;
 use rules::Ran;
 use rules::Refusal;
@@ -108,7 +109,7 @@ pub fn run(
     if page.len() < n {
         return refuse(Refusal::PageBuffer, t, place);
     }
-    if 1048576 < s.len() {
+    if LONGEST_STREAM < s.len() {
         return refuse(Refusal::StreamLength, t, place);
     }
     if !sound(g, t) {

@@ -14,7 +14,7 @@ use Rattle.rules.specs.Acts.{Act, type, control, escape, order, print, draw, ne
 use Rattle.rules.specs.Run.{pageOf}
 use Rattle.theorems.proofs.Pages.{step-single, showAll-core, showAll-blank}
 use Rattle.state_pen.specs.declared.Pen.{Pen}
-use Rattle.run_items.specs.Turns.{Stepped, shownBy, ItemDone, StillBlank}
+use Rattle.run_items.specs.Turns.{Taken, shownBy, ItemDone, StillBlank}
 
 -- on a page that was blank at first nothing was drawn as long as it is unused
 abbrev pub Undrawn : Measure → List ℕ → Bool → List ℕ → Type 0
@@ -47,7 +47,7 @@ handed-as-is g (a ∷ []) c p h e = go (endsPage a c) refl e
     go false q k = absurd (false≢true k)
 handed-as-is g (a ∷ b ∷ l) c p h e = absurd (omega arith)
 
-module _ {g : Measure} {t : State} {p s : List ℕ} {at : ℕ} {r : Stepped} {after : List ℕ} (d : ItemDone g t p s at r after) (first : List ℕ) (h : Undrawn g first (t .core .used) p) where
+module _ {g : Measure} {t : State} {p s : List ℕ} {at : ℕ} {r : Taken} {after : List ℕ} (d : ItemDone g t p s at r after) (first : List ℕ) (h : Undrawn g first (t .core .used) p) where
   -- an item that ends the page, which was unused
   blank-ended : r .ended ≡ true → t .core .used ≡ false → first ≡ blank g → after ≡ blank g
   blank-ended e u k =

@@ -1,18 +1,15 @@
 -- A run, item by item: what one turn of its loop does to what is left to do. Assumes nothing.
 use mathlib.Core.Path.{_≡_, refl, sym, ap, _∙_}
-use mathlib.Core.Bool.{Bool, true, false, cond, not, _&&_, _||_, false≢true}
+use mathlib.Core.Bool.{Bool, true, false, cond, not, _&&_, false≢true}
 use mathlib.Core.List.{List, [], _∷_}
 use Prim.Native.Nat.{ℕ, suc, _+_, _-_, _≤_, _<_}
 use native.Mathlib.Nat.{sub-zero}
 use native.Mathlib.Omega.{arith}
 use lib.Dec.{eqb, ltb}
-use mir.Syntax.{w8}
-use mir.Val as val
 use lib.ListN.{length, drop, getD, drop-of-length-le}
-use borrow.Author.Tests.{ltb-true, eqb-true, lt-ltb, le-ltb, ne-eqb}
+use borrow.Author.Tests.{ltb-true, eqb-true, lt-ltb, le-ltb}
 use Rattle.common.specs.Lists.{isNil}
-use mathlib.Core.Logic.{⊎-elim}
-use Rattle.common.proofs.Choices.{and-true, le-or-lt, within-in, within-under, within-over}
+use Rattle.common.proofs.Choices.{and-true}
 use Rattle.common.proofs.Places.{cut}
 use Rattle.rules.specs.declared.Measure.{Measure}
 use Rattle.rules.specs.declared.Sequence.{Sequence}
@@ -25,8 +22,7 @@ use Rattle.rules.specs.declared.Beside.{Beside}
 use Rattle.rules.specs.declared.State.{State}
 use Rattle.rules.specs.declared.Ran.{Ran}
 use Rattle.rules.specs.Findings.{isClean}
-use Rattle.rules.specs.States.{stateOf, withAt, withUsed}
-use Rattle.rules.specs.Codes.{typed}
+use Rattle.rules.specs.States.{stateOf}
 use Rattle.rules.specs.Items as rule
 use Rattle.rules.specs.Items.{isText, reading, read}
 use Rattle.rules.specs.Acts.{mean, step, isClosed, over}
@@ -36,7 +32,8 @@ use Rattle.read_item.specs.declared.Item.the-variants as found
 use Rattle.read_item.specs.declared.ReadItem.{ReadItem}
 use Rattle.read_item.specs.Items.{readAt, itemIn, ItemAt}
 use Rattle.read_item.proofs.Places.{read-left, read-back}
-use Rattle.do_text.specs.Cursor.{typedSpot}
+use Rattle.do_text.specs.Cursor.{typedPen}
+use Rattle.do_text.proofs.Typing.{typed-core}
 use Rattle.state_pen.specs.declared.Pen.{Pen}
 use Rattle.state_pen.specs.Pens.{penOf, coreOf}
 use Rattle.do_deed.specs.declared.Deed.{Deed}
@@ -45,19 +42,19 @@ use Rattle.do_deed.specs.Deeds.{wholeOf, DeedOn}
 use Rattle.do_deed.proofs.Acts.{text-done}
 use Rattle.rules.specs.Measure.{blank, origin}
 use Rattle.run_items.proofs.Blank.{Undrawn, page-none, blank-goes, blank-behind}
-use Rattle.run_items.specs.Turns.{Stepped, textNext, shownBy, ItemDone, stopOf, RunsOn}
+use Rattle.run_items.specs.Turns.{Taken, textNext, shownBy, ItemDone, stopOf, RunsOn}
 use Rattle.theorems.specs.Facts.{Fits, Shaped, SoundState}
 use Rattle.theorems.proofs.Streams.{step-shaped}
 use Rattle.theorems.proofs.Sound.{step-sound}
 
-abbrev pub steppedOf : State → ℕ → Finding → Bool → Stepped
-steppedOf t at f ended = record { state = t; next = at; finding = f; ended = ended }
+abbrev pub takenOf : State → ℕ → Finding → Bool → Taken
+takenOf t at f ended = record { state = t; next = at; finding = f; ended = ended }
 
 module _ (g : Measure) (t : State) (p s : List ℕ) (at : ℕ) (a : Acted) (after : List ℕ) where
   -- an item that the rules read there, done as its meaning says
   done-there : (r : ReadItem) → r ≡ readAt s at (t .sequence) → r .next ≤ length s
       → ActedOn g (mean g (read (t .sequence) (drop at s) .item) (t .core) (t .beside)) (t .core) p a after
-      → ItemDone g t p s at (steppedOf (stateOf (a .core) (a .beside) (r .sequence)) (r .next) (a .finding) (a .ended)) after
+      → ItemDone g t p s at (takenOf (stateOf (a .core) (a .beside) (r .sequence)) (r .next) (a .finding) (a .ended)) after
   unfolding step acted pageAfter readAt
   done-there r e l h = record {
     state = rw (e, h .given);
@@ -71,7 +68,7 @@ module _ (g : Measure) (t : State) (p s : List ℕ) (at : ℕ) (a : Acted) (afte
 
   -- the same for an item of the stream, whose payload is a part of it
   pub item-done : (r : ReadItem) → at ≤ length s → ItemAt s at (t .sequence) r → ActedOn g (mean g (itemIn s (r .item)) (t .core) (t .beside)) (t .core) p a after
-      → ItemDone g t p s at (steppedOf (stateOf (a .core) (a .beside) (r .sequence)) (r .next) (a .finding) (a .ended)) after
+      → ItemDone g t p s at (takenOf (stateOf (a .core) (a .beside) (r .sequence)) (r .next) (a .finding) (a .ended)) after
   item-done r i h k =
       let x : itemIn s (r .item) ≡ read (t .sequence) (drop at s) .item = ap (λ (z : ReadItem). itemIn s (z .item)) (h .is) ∙ read-back s at (t .sequence) in
       let n = h .inside in
@@ -105,20 +102,6 @@ module _ (s : List ℕ) (at : ℕ) (q : Sequence) where
   -- none in an open sequence
   pub text-not : (t : Bool) → at < length s → t ≡ isClosed q → t ≡ false → false ≡ textNext s at q
   text-not t h e f = rw (lt-ltb at (length s) h, ← e, f)
-
--- a control code below space
-pub text-low : (b : ℕ) → b < 32 → false ≡ isText b
-text-low b h = rw (within-under 32 126 b h, within-under 128 255 b (omega arith))
-
--- all above are text but for 127
-pub text-high : (b : ℕ) → 32 ≤ b → val.Fits w8 b → not (eqb b 127) ≡ isText b
-text-high b l f = let h : b ≤ 255 = omega (arith, f .fits) in ⊎-elim
-    (λ k. rw (ne-eqb b 127 (λ z. omega arith), within-in 32 126 b l (omega arith)))
-    (λ k. ⊎-elim
-    (λ m. let z : b ≡ 127 = omega arith in rw z)
-    (λ m. rw (ne-eqb b 127 (λ z. omega arith), within-over 32 126 b k, within-in 128 255 b (omega arith) h))
-    (le-or-lt b 127))
-    (le-or-lt b 126)
 
 -- ---- the loop
 abbrev ranOf : State → ℕ → Finding → ℕ → Spot → Bool → ℕ → Ran
@@ -187,7 +170,7 @@ module _ (g : Measure) (fit : Fits g) (s : List ℕ) (allow : ℕ) (o : Outcome)
         let k : halted t at done p ≡ o = rw (← e, f) at (rw one-more at (h .left)) in
         rw (q .finding, q .found, q .began, q .ended) (record { given = ap (λ (z : Outcome). z .ran) k; lent = ap (λ (z : Outcome). z .page) k })
 
-    module _ (x : Bool) (e : x ≡ over t (drop at s)) (f : x ≡ false) (r : Stepped) (after : List ℕ) (d : ItemDone g t p s at r after) where
+    module _ (x : Bool) (e : x ≡ over t (drop at s)) (f : x ≡ false) (r : Taken) (after : List ℕ) (d : ItemDone g t p s at r after) where
       -- what is left to do behind it, and what the run comes to where it stops
       abbrev more : Outcome
       more = runFrom g (allow - (done + 1)) (done + 1) (at + step g t (drop at s) .done .took) (step g t (drop at s) .state) (shownBy g (step g t (drop at s)) t p .page) (step g t (drop at s) .rest)
@@ -240,7 +223,7 @@ pub spot-none : (f : Finding) (at : Spot) (x : Bool) → x ≡ isClean f → x �
 spot-none f at x e h = rw (← e, h)
 
 -- what a run gives that stops behind an item
-pub stop-is : (r : Stepped) (begins : ℕ) (from : Spot) (done found : ℕ) (began : Spot) → found ≡ placeOf (r .finding) begins → began ≡ spotOf (r .finding) from
+pub stop-is : (r : Taken) (begins : ℕ) (from : Spot) (done found : ℕ) (began : Spot) → found ≡ placeOf (r .finding) begins → began ≡ spotOf (r .finding) from
     → ranOf (r .state) (r .next) (r .finding) found began (r .ended) done ≡ stopOf r begins from done
 stop-is r begins from done found began e b = rw (e, b)
 
@@ -268,39 +251,49 @@ text-told s at q x e f =
     go Closed z = refl
     go (Open first group) z = absurd (false≢true z)
 
--- a space or a text byte done: the cursor moved, the page used or not
-text-item : (g : Measure) (c d : Core) (m : Beside) (p s : List ℕ) (at : ℕ) → at < length s → isText (getD s at 0) ≡ true → d ≡ typed g (getD s at 0) c
-    → ItemDone g (stateOf c m Closed) p s at (steppedOf (stateOf d m Closed) (at + 1) Nothing false) p
+-- a space or a text byte, as it is read
+pub text-at : (s : List ℕ) (at : ℕ) → at < length s → isText (getD s at 0) ≡ true → ItemAt s at Closed (record { item = found.Text (getD s at 0); sequence = Closed; next = at + 1 })
 unfolding readAt read
-text-item g c d m p s at l h e =
+text-at s at l h =
     let b = getD s at 0 in
     let k = cut s at l in
     let z = text-plain b h in
     let r : read Closed (drop at s) ≡ reading (rule.text b) Closed (drop (at + 1) s) = rw (k, z, h) in
     let n : at + (length (drop at s) - length (drop (at + 1) s)) ≡ at + 1 = rw k (omega arith) in
-    let there : record { item = found.Text b; sequence = Closed; next = at + 1 } ≡ readAt s at Closed = rw r (ap (λ (i : ℕ). record { item = found.Text b; sequence = Closed; next = i }) (sym n)) in
-    let act : ActedOn g (mean g (read Closed (drop at s) .item) c m) c p (actedOf d m Nothing false) p = rw r (text-done g b c d m e p) in
-    done-there g (stateOf c m Closed) p s at (actedOf d m Nothing false) p (record { item = found.Text b; sequence = Closed; next = at + 1 }) there (omega arith) act
+    record {
+      is = rw r (ap (λ (i : ℕ). record { item = found.Text b; sequence = Closed; next = i }) (sym n));
+      forward = omega arith;
+      inside = omega arith;
+      ordered = omega arith;
+      ended = omega arith;
+      counted = omega arith;
+      low = omega arith;
+    }
 
-module _ (g : Measure) (fit : Fits g) (s : List ℕ) (allow : ℕ) (o : Outcome) (c : Core) (m : Beside) (q : Sequence) (at done : ℕ) {first : List ℕ} (p : List ℕ) (h : Going g s allow o (stateOf c m q) at done first p) where
+-- what it does to a pen: the cursor moves, the page is used or not
+pub text-acts : (g : Measure) (b : ℕ) (n n′ : Pen) (l : List Spot) (seed : List ℕ) (m : Beside) (p : List ℕ) → n′ ≡ typedPen g n b
+    → ActedOn g (mean g (rule.text b) (coreOf n l seed) m) (coreOf n l seed) p (actedOf (coreOf n′ l seed) m Nothing false) p
+text-acts g b n n′ l seed m p e = text-done g b (coreOf n l seed) (coreOf n′ l seed) m (typed-core g b n n′ l seed e) p
+
+module _ (g : Measure) (fit : Fits g) (s : List ℕ) (allow : ℕ) (o : Outcome) (n : Pen) (k : List Spot) (seed : List ℕ) (m : Beside) (q : Sequence) (at done : ℕ) {first : List ℕ} (p : List ℕ)
+    (h : Going g s allow o (stateOf (coreOf n k seed) m q) at done first p) where
   -- a space or a text byte: the run goes on behind it
-  pub turn-text : (x : Bool) (to : Spot) (u : Bool) → done < allow → x ≡ textNext s at q → x ≡ true → to ≡ typedSpot g (c .at) (c .layout) → u ≡ (c .used || not (eqb (getD s at 0) 32))
-      → Going g s allow o (stateOf (withUsed u (withAt to c)) m q) (at + 1) (done + 1) first p
-  unfolding typed
-  turn-text x to u l e f k j =
+  pub turn-text : (x : Bool) (n′ : Pen) → done < allow → x ≡ textNext s at q → x ≡ true → n′ ≡ typedPen g n (getD s at 0) → Going g s allow o (stateOf (coreOf n′ k seed) m q) (at + 1) (done + 1) first p
+  turn-text x n′ l e f d =
       let z = text-told s at q x e f in
-      let d : withUsed u (withAt to c) ≡ typed g (getD s at 0) c = rw (k, j) in
-      go q (z .closed) h (over-not s at q (z .inside)) (text-item g c (withUsed u (withAt to c)) m p s at (z .inside) (z .text) d)
+      let b = getD s at 0 in
+      let i = item-done g (stateOf (coreOf n k seed) m Closed) p s at (actedOf (coreOf n′ k seed) m Nothing false) p (record { item = found.Text b; sequence = Closed; next = at + 1 }) (h .inside) (text-at s at (z .inside) (z .text)) (text-acts g b n n′ k seed m p d) in
+      go q (z .closed) h (over-not s at q (z .inside)) i
     where
-      go : (r : Sequence) → r ≡ Closed → Going g s allow o (stateOf c m r) at done first p → false ≡ over (stateOf c m r) (drop at s)
-          → ItemDone g (stateOf c m Closed) p s at (steppedOf (stateOf (withUsed u (withAt to c)) m Closed) (at + 1) Nothing false) p → Going g s allow o (stateOf (withUsed u (withAt to c)) m r) (at + 1) (done + 1) first p
-      go Closed e h v i = turn-goes g fit s allow o (stateOf c m Closed) at done p h l false v refl (steppedOf (stateOf (withUsed u (withAt to c)) m Closed) (at + 1) Nothing false) p i true refl refl
+      go : (r : Sequence) → r ≡ Closed → Going g s allow o (stateOf (coreOf n k seed) m r) at done first p → false ≡ over (stateOf (coreOf n k seed) m r) (drop at s)
+          → ItemDone g (stateOf (coreOf n k seed) m Closed) p s at (takenOf (stateOf (coreOf n′ k seed) m Closed) (at + 1) Nothing false) p → Going g s allow o (stateOf (coreOf n′ k seed) m r) (at + 1) (done + 1) first p
+      go Closed e h v i = turn-goes g fit s allow o (stateOf (coreOf n k seed) m Closed) at done p h l false v refl (takenOf (stateOf (coreOf n′ k seed) m Closed) (at + 1) Nothing false) p i true refl refl
       go (Open first group) e h v i = absurd (false≢true (ap isClosed e))
 
 -- an item done on the parts of a core
 pub deed-done : (g : Measure) (n : Pen) (l : List Spot) (seed : List ℕ) (m : Beside) (q : Sequence) (p s : List ℕ) (at : ℕ) (r : ReadItem) (d : Deed) (seed′ p′ : List ℕ) (c : Core) → at ≤ length s → ItemAt s at q r
     → DeedOn g (λ (c : Core). mean g (itemIn s (r .item)) c m) n seed p d seed′ p′ → wholeOf n l seed′ d .core ≡ c
-    → ItemDone g (stateOf (coreOf n l seed) m q) p s at (steppedOf (stateOf c (d .beside) (r .sequence)) (r .next) (d .finding) (d .ended)) p′
+    → ItemDone g (stateOf (coreOf n l seed) m q) p s at (takenOf (stateOf c (d .beside) (r .sequence)) (r .next) (d .finding) (d .ended)) p′
 deed-done g n l seed m q p s at r d seed′ p′ c i h k e = rw (← e) (item-done g (stateOf (coreOf n l seed) m q) p s at (wholeOf n l seed′ d) p′ r i h (k .acted l))
 
 -- the core of a pen that was taken from it

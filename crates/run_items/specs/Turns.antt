@@ -27,14 +27,14 @@ abbrev pub shownBy : Measure → Step → State → List ℕ → World
 shownBy g d t p = showAll g (d .done .acts) (world (t .core) p [])
 
 -- what one item comes to besides the page: the state and the place behind it, its finding, and whether it ended the page
-pub record Stepped : Type 0 where
+pub record Taken : Type 0 where
   pub state : State
   pub next : ℕ
   pub finding : Finding
   pub ended : Bool
 
 -- the item at the place `at` of the stream s, done in the state t on the page p, as the rules do it
-pub record ItemDone (g : Measure) (t : State) (p s : List ℕ) (at : ℕ) (r : Stepped) (after : List ℕ) : Type 0 where
+pub record ItemDone (g : Measure) (t : State) (p s : List ℕ) (at : ℕ) (r : Taken) (after : List ℕ) : Type 0 where
   -- the state behind it
   pub state : r .state ≡ step g t (drop at s) .state
   -- its finding
@@ -51,7 +51,7 @@ pub record ItemDone (g : Measure) (t : State) (p s : List ℕ) (at : ℕ) (r : S
   pub inside : r .next ≤ length s
 
 -- what a run gives that stops behind an item, which began at the place `begins` of the stream, with the cursor at `from`
-abbrev pub stopOf : Stepped → ℕ → Spot → ℕ → Ran
+abbrev pub stopOf : Taken → ℕ → Spot → ℕ → Ran
 stopOf r begins from done = record {
   verdict = Carried;
   state = r .state;

@@ -6,16 +6,15 @@ ghost use Prim.Native.Nat.{_≤_};
 ghost use lib.ListN.{length, drop};
 ghost use Rattle.common.specs.Lists.{isNil};
 ghost use Rattle.rules.specs.Findings.{isClean};
-ghost use Rattle.rules.specs.Items.{isText};
 ghost use Rattle.rules.specs.Acts.{isClosed};
 ghost use Rattle.rules.specs.Run.{placeOf, spotOf, runFrom};
 ghost use Rattle.theorems.specs.Facts.{Fits, Shaped, SoundState};
 ghost use Rattle.run_items.specs.Turns.{textNext, RunsOn, StillBlank};
 use do_deed::Stacking;
 use do_item::do_item;
-use do_text::marked;
-use do_text::typed_at;
+use do_text::typed_pen;
 use number_finding::is_clean;
+use read_item::is_text;
 use read_item::read_item;
 use rules::Finding;
 use rules::Measure;
@@ -42,13 +41,6 @@ pub fn is_over(s: &[u8], at: usize, q: Sequence) -> bool
     ensures { λ r. ⌜ r ≡ (isClosed q && isNil (drop at (now (s .entry)))) ⌝ }
 {
     if at < s.len() { false } else { is_closed(q) }
-}
-
-// Space and text.
-fn is_text(b: u8) -> bool
-    ensures { λ r. ⌜ r ≡ isText b ⌝ }
-{
-    if b < 32 { false } else { b != 127 }
 }
 
 // Whether the next item is space or text: the cursor moves, and nothing else is to be looked at.
@@ -123,12 +115,7 @@ pub fn run_items(
     let mut was_used = false;
     while done < allowance {
         if text_next(s, at, sequence) {
-            let from = pen.at;
-            let layout = pen.layout;
-            let to = typed_at(g, from, layout);
-            let used = marked(pen.used, s[at]);
-            pen.at = to;
-            pen.used = used;
+            pen = typed_pen(g, pen, s[at]);
             at += 1;
             done += 1;
             continue;

@@ -6,6 +6,7 @@ use Rattle.do_deed.proofs.Penned.{kept-there, pushed-core, popped-core, emptied
 use Rattle.run_items.proofs.Turns.{text-told}
 use Rattle.theorems.proofs.Reading.{left}
 use Rattle.theorems.specs.Facts.{Fits}
+use Rattle.rules.specs.Measure.{longestStream}
 use Rattle.rules.specs.States.{stateOf}
 use lib.ListN.{length, drop}
 use Prim.Native.Nat.{_≤_}
@@ -16,7 +17,7 @@ use Rattle.plain_stream.proofs.write_stream.Tie as tie
 
 abbrev Inv-loop : tie.InvT-loop
 Inv-loop g s room₀ most pen₀ stack₀ seed₀ beside₀ sequence₀ at₀ end₀ room pen stack seed beside sequence at end =
-    Fits g × (length s ≤ 1048576) × Telling g s room₀ (stateOf (coreOf pen stack seed) beside sequence) at room end
+    Fits g × (length s ≤ longestStream) × Telling g most s room₀ (stateOf (coreOf pen stack seed) beside sequence) at room end
 
 abbrev μ-loop : tie.MeasureT-loop
 μ-loop g s room₀ most pen₀ stack₀ seed₀ beside₀ sequence₀ at₀ end₀ room pen stack seed beside sequence at end = left sequence (drop at s)
@@ -28,49 +29,46 @@ pen-of-requires : tie.Need-pen-of-requires Inv-loop μ-loop
 pen-of-requires c κs = search needs
 
 loop-holds : tie.Need-loop-holds Inv-loop μ-loop
-loop-holds c = (c .before .before .before .before .before .before .before .before .pre .0, c .before .before .before .before .before .before .before .before .pre .1, telling-apart _ _ _ _ _ (c .before .before .before .before .before .before .before .before .pre .0) (c .before .before .before .before .before .afresh .ensures) (c .before .before .before .pen-of .ensures))
+loop-holds c = (c .before .before .before .before .before .before .before .before .pre .0, c .before .before .before .before .before .before .before .before .pre .1, telling-apart _ _ _ _ _ _ (c .before .before .before .before .before .before .before .before .pre .0) (c .before .before .before .before .before .afresh .ensures) (c .before .before .before .pen-of .ensures))
 
 same-length : tie.Need-same-length Inv-loop μ-loop
-same-length c = telling-long _ _ _ _ _ _ _ (c .before .loop .inv .2)
+same-length c = telling-long _ _ _ _ _ _ _ _ (c .before .loop .inv .2)
 
 returns : tie.Need-returns Inv-loop μ-loop
-returns c = telling-beyond _ (c .before .loop .inv .0) _ _ _ _ _ _ (c .before .loop .inv .2) _ (c .if1 .taken)
+returns c = telling-beyond _ (c .before .loop .inv .0) _ _ _ _ _ _ _ (c .before .loop .inv .2) (c .if1 .taken)
 
 text-next-requires : tie.Need-text-next-requires Inv-loop μ-loop
 text-next-requires c κs = search needs
 
-typed-at-requires : tie.Need-typed-at-requires Inv-loop μ-loop
-typed-at-requires c κs = search needs
+shared-slice-read-typed-pen : tie.Need-shared-slice-read-typed-pen Inv-loop μ-loop
+shared-slice-read-typed-pen c = text-told (c .before .before .before .before .before .before .before .before .before .before .before .before .before .args .s .now) (c .before .before .before .before .loop .at) (c .before .before .before .before .loop .sequence) _ (c .before .before .text-next .ensures) (c .before .if2 .taken) .inside
 
-shared-slice-read-marked : tie.Need-shared-slice-read-marked Inv-loop μ-loop
-shared-slice-read-marked c = text-told (c .before .before .before .before .before .before .before .before .before .before .before .before .before .before .before .before .args .s .now) (c .before .before .before .before .before .before .before .loop .at) (c .before .before .before .before .before .before .before .loop .sequence) _ (c .before .before .before .before .before .text-next .ensures) (c .before .before .before .before .if2 .taken) .inside
-
-marked-requires : tie.Need-marked-requires Inv-loop μ-loop
-marked-requires c κs = search needs
+typed-pen-requires : tie.Need-typed-pen-requires Inv-loop μ-loop
+typed-pen-requires c κs = search needs
 
 shared-slice-read-write-one : tie.Need-shared-slice-read-write-one Inv-loop μ-loop
-shared-slice-read-write-one c = text-told (c .before .before .before .before .before .before .before .before .before .before .before .before .before .before .before .before .before .before .args .s .now) (c .before .before .before .before .before .before .before .before .before .loop .at) (c .before .before .before .before .before .before .before .before .before .loop .sequence) _ (c .before .before .before .before .before .before .before .text-next .ensures) (c .before .before .before .before .before .before .if2 .taken) .inside
+shared-slice-read-write-one c = text-told (c .before .before .before .before .before .before .before .before .before .before .before .before .before .before .before .args .s .now) (c .before .before .before .before .before .before .loop .at) (c .before .before .before .before .before .before .loop .sequence) _ (c .before .before .before .before .text-next .ensures) (c .before .before .before .if2 .taken) .inside
 
 write-one-requires : tie.Need-write-one-requires Inv-loop μ-loop
-write-one-requires c κs = omega (arith, telling-small _ (c .before .before .before .before .before .before .before .before .before .before .loop .inv .0) _ _ _ _ _ _ (c .before .before .before .before .before .before .before .before .before .before .loop .inv .2) (c .before .before .before .before .before .before .before .before .before .before .loop .inv .1))
+write-one-requires c κs = omega (arith, telling-small _ (c .before .before .before .before .before .before .before .loop .inv .0) _ _ _ _ _ _ _ (c .before .before .before .before .before .before .before .loop .inv .2) (c .before .before .before .before .before .before .before .loop .inv .1))
 
 add-at : tie.Need-add-at Inv-loop μ-loop
 add-at c = search needs
 
 loop-less : tie.Need-loop-less Inv-loop μ-loop
-loop-less c = text-less _ (c .before .before .before .before .before .before .before .before .before .before .before .before .before .loop .inv .0) _ _ _ _ _ _ _ _ (c .before .before .before .before .before .before .before .before .before .before .before .before .before .loop .inv .2) _ (c .before .before .before .before .before .before .before .before .before .before .before .text-next .ensures) (c .before .before .before .before .before .before .before .before .before .before .if2 .taken)
+loop-less c = text-less _ (c .before .before .before .before .before .before .before .before .before .before .loop .inv .0) _ _ _ _ _ _ _ _ _ _ _ (c .before .before .before .before .before .before .before .before .before .before .loop .inv .2) _ (c .before .before .before .before .before .before .before .before .text-next .ensures) (c .before .before .before .before .before .before .before .if2 .taken)
 
 loop-again : tie.Need-loop-again Inv-loop μ-loop
-loop-again c = (c .before .before .before .before .before .before .before .before .before .before .before .before .before .loop .inv .0, c .before .before .before .before .before .before .before .before .before .before .before .before .before .loop .inv .1, telling-text _ (c .before .before .before .before .before .before .before .before .before .before .before .before .before .loop .inv .0) _ _ _ _ _ _ _ _ (c .before .before .before .before .before .before .before .before .before .before .before .before .before .loop .inv .2) _ _ _ _ _ (c .before .before .before .before .before .before .before .before .before .before .before .text-next .ensures) (c .before .before .before .before .before .before .before .before .before .before .if2 .taken) (c .before .before .before .before .before .before .before .typed-at .ensures) (c .before .before .before .before .before .marked .ensures) (c .before .before .write-one .ensures))
+loop-again c = (c .before .before .before .before .before .before .before .before .before .before .loop .inv .0, c .before .before .before .before .before .before .before .before .before .before .loop .inv .1, telling-text _ (c .before .before .before .before .before .before .before .before .before .before .loop .inv .0) _ _ _ _ _ _ _ _ _ _ _ (c .before .before .before .before .before .before .before .before .before .before .loop .inv .2) _ _ _ _ (c .before .before .before .before .before .before .before .before .before .if1 .left) (c .before .before .before .before .before .before .before .before .text-next .ensures) (c .before .before .before .before .before .before .before .if2 .taken) (c .before .before .before .before .before .typed-pen .ensures) (c .before .before .write-one .ensures))
 
 is-over-requires : tie.Need-is-over-requires Inv-loop μ-loop
 is-over-requires c κs = search needs
 
 same-length-2 : tie.Need-same-length-2 Inv-loop μ-loop
-same-length-2 c = telling-long _ _ _ _ _ _ _ (c .before .before .before .before .before .loop .inv .2)
+same-length-2 c = telling-long _ _ _ _ _ _ _ _ (c .before .before .before .before .before .loop .inv .2)
 
 returns-2 : tie.Need-returns-2 Inv-loop μ-loop
-returns-2 c = telling-over _ (c .before .before .before .before .before .loop .inv .0) _ _ _ _ _ _ (c .before .before .before .before .before .loop .inv .2) _ _ (c .before .is-over .ensures) (c .if3 .taken)
+returns-2 c = telling-over _ (c .before .before .before .before .before .loop .inv .0) _ _ _ _ _ _ _ (c .before .before .before .before .before .loop .inv .2) _ (c .before .is-over .ensures) (c .if3 .taken)
 
 read-item-requires : tie.Need-read-item-requires Inv-loop μ-loop
 read-item-requires c κs = search needs
@@ -88,19 +86,19 @@ do-item-requires : tie.Need-do-item-requires Inv-loop μ-loop
 do-item-requires c κs = (((c .before .before .before .before .before .before .before .before .loop .inv .0 .wide, c .before .before .before .before .before .before .before .before .loop .inv .0 .high), c .before .before .before .before .before .before .before .before .loop .inv .2 .sound .core .depth, c .before .before .before .before .before .before .before .before .loop .inv .2 .sound .core .seed, c .before .before .before .before .before .before .before .before .loop .inv .2 .shaped .0), (c .before .before .read-item .ensures .ordered, omega (arith, c .before .before .read-item .ensures .ended, c .before .before .read-item .ensures .inside, c .before .before .before .before .before .before .before .before .loop .inv .2 .inside)))
 
 slice-aggregate-write-done : tie.Need-slice-aggregate-write-done Inv-loop μ-loop
-slice-aggregate-write-done c = let z = deed-long _ (c .before .before .before .before .before .before .before .before .before .before .before .before .before .before .before .loop .inv .0) _ _ _ _ _ _ _ _ _ _ (c .before .before .before .before .before .before .before .before .before .before .before .before .before .before .before .loop .inv .2) _ (c .before .before .before .before .before .before .before .before .before .before .before .is-over .ensures) (c .before .before .before .before .before .before .before .before .before .before .if3 .left) _ _ _ _ _ (c .before .before .before .before .before .before .before .before .before .read-item .ensures) (c .before .before .before .before .before .before .do-item .ensures) in search needs
+slice-aggregate-write-done c = let z = deed-long _ (c .before .before .before .before .before .before .before .before .before .before .before .before .before .before .before .loop .inv .0) _ _ _ _ _ _ _ _ _ _ _ (c .before .before .before .before .before .before .before .before .before .before .before .before .before .before .before .loop .inv .2) _ (c .before .before .before .before .before .before .before .before .before .before .before .is-over .ensures) (c .before .before .before .before .before .before .before .before .before .before .if3 .left) _ _ _ _ _ (c .before .before .before .before .before .before .before .before .before .read-item .ensures) (c .before .before .before .before .before .before .do-item .ensures) in search needs
 
 write-done-requires : tie.Need-write-done-requires Inv-loop μ-loop
-write-done-requires c κs = (c .before .before .before .before .before .before .before .before .before .before .read-item .ensures .ordered, omega (arith, c .before .before .before .before .before .before .before .before .before .before .read-item .ensures .ended, c .before .before .before .before .before .before .before .before .before .before .read-item .ensures .inside, c .before .before .before .before .before .before .before .before .before .before .before .before .before .before .before .before .loop .inv .2 .inside), c .before .before .before .before .before .before .before .before .before .before .read-item .ensures .counted, c .before .before .before .before .before .before .before .before .before .before .before .before .before .before .before .before .loop .inv .0 .wide, deed-seed _ (c .before .before .before .before .before .before .before .before .before .before .before .before .before .before .before .before .loop .inv .0) _ _ _ _ _ _ _ _ _ _ (c .before .before .before .before .before .before .before .before .before .before .before .before .before .before .before .before .loop .inv .2) _ (c .before .before .before .before .before .before .before .before .before .before .before .before .is-over .ensures) (c .before .before .before .before .before .before .before .before .before .before .before .if3 .left) _ _ _ _ _ (c .before .before .before .before .before .before .before .before .before .before .read-item .ensures) (c .before .before .before .before .before .before .before .do-item .ensures), telling-small _ (c .before .before .before .before .before .before .before .before .before .before .before .before .before .before .before .before .loop .inv .0) _ _ _ _ _ _ (c .before .before .before .before .before .before .before .before .before .before .before .before .before .before .before .before .loop .inv .2) (c .before .before .before .before .before .before .before .before .before .before .before .before .before .before .before .before .loop .inv .1))
+write-done-requires c κs = (c .before .before .before .before .before .before .before .before .before .before .read-item .ensures .ordered, omega (arith, c .before .before .before .before .before .before .before .before .before .before .read-item .ensures .ended, c .before .before .before .before .before .before .before .before .before .before .read-item .ensures .inside, c .before .before .before .before .before .before .before .before .before .before .before .before .before .before .before .before .loop .inv .2 .inside), c .before .before .before .before .before .before .before .before .before .before .read-item .ensures .counted, c .before .before .before .before .before .before .before .before .before .before .before .before .before .before .before .before .loop .inv .0 .wide, deed-seed _ (c .before .before .before .before .before .before .before .before .before .before .before .before .before .before .before .before .loop .inv .0) _ _ _ _ _ _ _ _ _ _ _ (c .before .before .before .before .before .before .before .before .before .before .before .before .before .before .before .before .loop .inv .2) _ (c .before .before .before .before .before .before .before .before .before .before .before .before .is-over .ensures) (c .before .before .before .before .before .before .before .before .before .before .before .if3 .left) _ _ _ _ _ (c .before .before .before .before .before .before .before .before .before .before .read-item .ensures) (c .before .before .before .before .before .before .before .do-item .ensures), telling-small _ (c .before .before .before .before .before .before .before .before .before .before .before .before .before .before .before .before .loop .inv .0) _ _ _ _ _ _ _ (c .before .before .before .before .before .before .before .before .before .before .before .before .before .before .before .before .loop .inv .2) (c .before .before .before .before .before .before .before .before .before .before .before .before .before .before .before .before .loop .inv .1))
 
 enum-told : tie.Need-enum-told Inv-loop μ-loop
 enum-told c = search needs
 
 loop-less-2 : tie.Need-loop-less-2 Inv-loop μ-loop
-loop-less-2 c = deed-less _ (c .before .before .before .before .before .before .before .before .before .before .before .before .before .before .before .before .before .before .before .before .before .loop .inv .0) _ _ _ _ _ _ _ _ _ _ (c .before .before .before .before .before .before .before .before .before .before .before .before .before .before .before .before .before .before .before .before .before .loop .inv .2) _ (c .before .before .before .before .before .before .before .before .before .before .before .before .before .before .before .before .before .is-over .ensures) (c .before .before .before .before .before .before .before .before .before .before .before .before .before .before .before .before .if3 .left) _ _ _ _ _ (c .before .before .before .before .before .before .before .before .before .before .before .before .before .before .before .read-item .ensures) (c .before .before .before .before .before .before .before .before .before .before .before .before .do-item .ensures)
+loop-less-2 c = deed-less _ (c .before .before .before .before .before .before .before .before .before .before .before .before .before .before .before .before .before .before .before .before .before .loop .inv .0) _ _ _ _ _ _ _ _ _ _ _ (c .before .before .before .before .before .before .before .before .before .before .before .before .before .before .before .before .before .before .before .before .before .loop .inv .2) _ (c .before .before .before .before .before .before .before .before .before .before .before .before .before .before .before .before .before .is-over .ensures) (c .before .before .before .before .before .before .before .before .before .before .before .before .before .before .before .before .if3 .left) _ _ _ _ _ (c .before .before .before .before .before .before .before .before .before .before .before .before .before .before .before .read-item .ensures) (c .before .before .before .before .before .before .before .before .before .before .before .before .do-item .ensures)
 
 loop-again-2 : tie.Need-loop-again-2 Inv-loop μ-loop
-loop-again-2 c = (c .before .before .before .before .before .before .before .before .before .before .before .before .before .before .before .before .before .before .before .before .before .loop .inv .0, c .before .before .before .before .before .before .before .before .before .before .before .before .before .before .before .before .before .before .before .before .before .loop .inv .1, telling-deed _ (c .before .before .before .before .before .before .before .before .before .before .before .before .before .before .before .before .before .before .before .before .before .loop .inv .0) _ _ _ _ _ _ _ _ _ _ (c .before .before .before .before .before .before .before .before .before .before .before .before .before .before .before .before .before .before .before .before .before .loop .inv .2) _ (c .before .before .before .before .before .before .before .before .before .before .before .before .before .before .before .before .before .is-over .ensures) (c .before .before .before .before .before .before .before .before .before .before .before .before .before .before .before .before .if3 .left) _ _ _ _ _ (c .before .before .before .before .before .before .before .before .before .before .before .before .before .before .before .read-item .ensures) (c .before .before .before .before .before .before .before .before .before .before .before .before .do-item .ensures) _ (kept-there _ _ _ (c .before .before .before .before .before .before .before .before .before .before .before .before .do-item .result) _ (c .enum-told .given .1) refl) (c .before .before .before .before .before .before .before .before .before .before .before .before .do-item .last .0) _ _ (c .before .before .before .before .before .before .before .before .before .before .before .room2 .given .0) (c .before .before .before .before .write-done .ensures))
+loop-again-2 c = (c .before .before .before .before .before .before .before .before .before .before .before .before .before .before .before .before .before .before .before .before .before .loop .inv .0, c .before .before .before .before .before .before .before .before .before .before .before .before .before .before .before .before .before .before .before .before .before .loop .inv .1, telling-deed _ (c .before .before .before .before .before .before .before .before .before .before .before .before .before .before .before .before .before .before .before .before .before .loop .inv .0) _ _ _ _ _ _ _ _ _ _ _ (c .before .before .before .before .before .before .before .before .before .before .before .before .before .before .before .before .before .before .before .before .before .loop .inv .2) _ (c .before .before .before .before .before .before .before .before .before .before .before .before .before .before .before .before .before .is-over .ensures) (c .before .before .before .before .before .before .before .before .before .before .before .before .before .before .before .before .if3 .left) _ _ _ _ _ (c .before .before .before .before .before .before .before .before .before .before .before .before .before .before .before .read-item .ensures) (c .before .before .before .before .before .before .before .before .before .before .before .before .do-item .ensures) (c .before .before .before .before .before .before .before .before .before .before .before .before .before .before .before .before .before .before .before .before .if1 .left) _ (kept-there _ _ _ (c .before .before .before .before .before .before .before .before .before .before .before .before .do-item .result) _ (c .enum-told .given .1) refl) (c .before .before .before .before .before .before .before .before .before .before .before .before .do-item .last .0) _ _ (c .before .before .before .before .before .before .before .before .before .before .before .room2 .given .0) (c .before .before .before .before .write-done .ensures))
 
 enum-told-2 : tie.Need-enum-told-2 Inv-loop μ-loop
 enum-told-2 c = search needs
@@ -112,10 +110,10 @@ array-set-from-stack : tie.Need-array-set-from-stack Inv-loop μ-loop
 array-set-from-stack c = push-placed _ _ (c .before .before .before .before .before .before .before .before .before .before .before .before .do-item .ensures .placed) (c .enum-told2 .given .1) .0
 
 loop-less-3 : tie.Need-loop-less-3 Inv-loop μ-loop
-loop-less-3 c = deed-less _ (c .before .before .before .before .before .before .before .before .before .before .before .before .before .before .before .before .before .before .before .before .before .loop .inv .0) _ _ _ _ _ _ _ _ _ _ (c .before .before .before .before .before .before .before .before .before .before .before .before .before .before .before .before .before .before .before .before .before .loop .inv .2) _ (c .before .before .before .before .before .before .before .before .before .before .before .before .before .before .before .before .before .is-over .ensures) (c .before .before .before .before .before .before .before .before .before .before .before .before .before .before .before .before .if3 .left) _ _ _ _ _ (c .before .before .before .before .before .before .before .before .before .before .before .before .before .before .before .read-item .ensures) (c .before .before .before .before .before .before .before .before .before .before .before .before .do-item .ensures)
+loop-less-3 c = deed-less _ (c .before .before .before .before .before .before .before .before .before .before .before .before .before .before .before .before .before .before .before .before .before .loop .inv .0) _ _ _ _ _ _ _ _ _ _ _ (c .before .before .before .before .before .before .before .before .before .before .before .before .before .before .before .before .before .before .before .before .before .loop .inv .2) _ (c .before .before .before .before .before .before .before .before .before .before .before .before .before .before .before .before .before .is-over .ensures) (c .before .before .before .before .before .before .before .before .before .before .before .before .before .before .before .before .if3 .left) _ _ _ _ _ (c .before .before .before .before .before .before .before .before .before .before .before .before .before .before .before .read-item .ensures) (c .before .before .before .before .before .before .before .before .before .before .before .before .do-item .ensures)
 
 loop-again-3 : tie.Need-loop-again-3 Inv-loop μ-loop
-loop-again-3 c = (c .before .before .before .before .before .before .before .before .before .before .before .before .before .before .before .before .before .before .before .before .before .loop .inv .0, c .before .before .before .before .before .before .before .before .before .before .before .before .before .before .before .before .before .before .before .before .before .loop .inv .1, telling-deed _ (c .before .before .before .before .before .before .before .before .before .before .before .before .before .before .before .before .before .before .before .before .before .loop .inv .0) _ _ _ _ _ _ _ _ _ _ (c .before .before .before .before .before .before .before .before .before .before .before .before .before .before .before .before .before .before .before .before .before .loop .inv .2) _ (c .before .before .before .before .before .before .before .before .before .before .before .before .before .before .before .before .before .is-over .ensures) (c .before .before .before .before .before .before .before .before .before .before .before .before .before .before .before .before .if3 .left) _ _ _ _ _ (c .before .before .before .before .before .before .before .before .before .before .before .before .before .before .before .read-item .ensures) (c .before .before .before .before .before .before .before .before .before .before .before .before .do-item .ensures) _ (pushed-core _ _ _ (c .before .before .before .before .before .before .before .before .before .before .before .before .do-item .result) (c .enum-told2 .given .1)) (c .before .before .before .before .before .before .before .before .before .before .before .before .do-item .last .0) _ _ (c .before .before .before .before .before .before .before .before .before .before .before .room2 .given .0) (c .before .before .before .before .write-done .ensures))
+loop-again-3 c = (c .before .before .before .before .before .before .before .before .before .before .before .before .before .before .before .before .before .before .before .before .before .loop .inv .0, c .before .before .before .before .before .before .before .before .before .before .before .before .before .before .before .before .before .before .before .before .before .loop .inv .1, telling-deed _ (c .before .before .before .before .before .before .before .before .before .before .before .before .before .before .before .before .before .before .before .before .before .loop .inv .0) _ _ _ _ _ _ _ _ _ _ _ (c .before .before .before .before .before .before .before .before .before .before .before .before .before .before .before .before .before .before .before .before .before .loop .inv .2) _ (c .before .before .before .before .before .before .before .before .before .before .before .before .before .before .before .before .before .is-over .ensures) (c .before .before .before .before .before .before .before .before .before .before .before .before .before .before .before .before .if3 .left) _ _ _ _ _ (c .before .before .before .before .before .before .before .before .before .before .before .before .before .before .before .read-item .ensures) (c .before .before .before .before .before .before .before .before .before .before .before .before .do-item .ensures) (c .before .before .before .before .before .before .before .before .before .before .before .before .before .before .before .before .before .before .before .before .if1 .left) _ (pushed-core _ _ _ (c .before .before .before .before .before .before .before .before .before .before .before .before .do-item .result) (c .enum-told2 .given .1)) (c .before .before .before .before .before .before .before .before .before .before .before .before .do-item .last .0) _ _ (c .before .before .before .before .before .before .before .before .before .before .before .room2 .given .0) (c .before .before .before .before .write-done .ensures))
 
 enum-told-3 : tie.Need-enum-told-3 Inv-loop μ-loop
 enum-told-3 c = search needs
@@ -133,19 +131,19 @@ array-set-from-stack-2 : tie.Need-array-set-from-stack-2 Inv-loop μ-loop
 array-set-from-stack-2 c = pop-placed _ _ (c .before .before .before .before .before .before .before .before .before .before .before .before .before .do-item .ensures .placed) (c .before .enum-told3 .given .1) .0
 
 loop-less-4 : tie.Need-loop-less-4 Inv-loop μ-loop
-loop-less-4 c = deed-less _ (c .before .before .before .before .before .before .before .before .before .before .before .before .before .before .before .before .before .before .before .before .before .before .loop .inv .0) _ _ _ _ _ _ _ _ _ _ (c .before .before .before .before .before .before .before .before .before .before .before .before .before .before .before .before .before .before .before .before .before .before .loop .inv .2) _ (c .before .before .before .before .before .before .before .before .before .before .before .before .before .before .before .before .before .before .is-over .ensures) (c .before .before .before .before .before .before .before .before .before .before .before .before .before .before .before .before .before .if3 .left) _ _ _ _ _ (c .before .before .before .before .before .before .before .before .before .before .before .before .before .before .before .before .read-item .ensures) (c .before .before .before .before .before .before .before .before .before .before .before .before .before .do-item .ensures)
+loop-less-4 c = deed-less _ (c .before .before .before .before .before .before .before .before .before .before .before .before .before .before .before .before .before .before .before .before .before .before .loop .inv .0) _ _ _ _ _ _ _ _ _ _ _ (c .before .before .before .before .before .before .before .before .before .before .before .before .before .before .before .before .before .before .before .before .before .before .loop .inv .2) _ (c .before .before .before .before .before .before .before .before .before .before .before .before .before .before .before .before .before .before .is-over .ensures) (c .before .before .before .before .before .before .before .before .before .before .before .before .before .before .before .before .before .if3 .left) _ _ _ _ _ (c .before .before .before .before .before .before .before .before .before .before .before .before .before .before .before .before .read-item .ensures) (c .before .before .before .before .before .before .before .before .before .before .before .before .before .do-item .ensures)
 
 loop-again-4 : tie.Need-loop-again-4 Inv-loop μ-loop
-loop-again-4 c = (c .before .before .before .before .before .before .before .before .before .before .before .before .before .before .before .before .before .before .before .before .before .before .loop .inv .0, c .before .before .before .before .before .before .before .before .before .before .before .before .before .before .before .before .before .before .before .before .before .before .loop .inv .1, telling-deed _ (c .before .before .before .before .before .before .before .before .before .before .before .before .before .before .before .before .before .before .before .before .before .before .loop .inv .0) _ _ _ _ _ _ _ _ _ _ (c .before .before .before .before .before .before .before .before .before .before .before .before .before .before .before .before .before .before .before .before .before .before .loop .inv .2) _ (c .before .before .before .before .before .before .before .before .before .before .before .before .before .before .before .before .before .before .is-over .ensures) (c .before .before .before .before .before .before .before .before .before .before .before .before .before .before .before .before .before .if3 .left) _ _ _ _ _ (c .before .before .before .before .before .before .before .before .before .before .before .before .before .before .before .before .read-item .ensures) (c .before .before .before .before .before .before .before .before .before .before .before .before .before .do-item .ensures) _ (popped-core _ _ _ (c .before .before .before .before .before .before .before .before .before .before .before .before .before .do-item .result) (c .before .enum-told3 .given .1)) (c .before .before .before .before .before .before .before .before .before .before .before .before .before .do-item .last .0) _ _ (c .before .before .before .before .before .before .before .before .before .before .before .before .room2 .given .0) (c .before .before .before .before .before .write-done .ensures))
+loop-again-4 c = (c .before .before .before .before .before .before .before .before .before .before .before .before .before .before .before .before .before .before .before .before .before .before .loop .inv .0, c .before .before .before .before .before .before .before .before .before .before .before .before .before .before .before .before .before .before .before .before .before .before .loop .inv .1, telling-deed _ (c .before .before .before .before .before .before .before .before .before .before .before .before .before .before .before .before .before .before .before .before .before .before .loop .inv .0) _ _ _ _ _ _ _ _ _ _ _ (c .before .before .before .before .before .before .before .before .before .before .before .before .before .before .before .before .before .before .before .before .before .before .loop .inv .2) _ (c .before .before .before .before .before .before .before .before .before .before .before .before .before .before .before .before .before .before .is-over .ensures) (c .before .before .before .before .before .before .before .before .before .before .before .before .before .before .before .before .before .if3 .left) _ _ _ _ _ (c .before .before .before .before .before .before .before .before .before .before .before .before .before .before .before .before .read-item .ensures) (c .before .before .before .before .before .before .before .before .before .before .before .before .before .do-item .ensures) (c .before .before .before .before .before .before .before .before .before .before .before .before .before .before .before .before .before .before .before .before .before .if1 .left) _ (popped-core _ _ _ (c .before .before .before .before .before .before .before .before .before .before .before .before .before .do-item .result) (c .before .enum-told3 .given .1)) (c .before .before .before .before .before .before .before .before .before .before .before .before .before .do-item .last .0) _ _ (c .before .before .before .before .before .before .before .before .before .before .before .before .room2 .given .0) (c .before .before .before .before .before .write-done .ensures))
 
 enum-told-4 : tie.Need-enum-told-4 Inv-loop μ-loop
 enum-told-4 c = search needs
 
 loop-less-5 : tie.Need-loop-less-5 Inv-loop μ-loop
-loop-less-5 c = deed-less _ (c .before .before .before .before .before .before .before .before .before .before .before .before .before .before .before .before .before .before .before .before .before .loop .inv .0) _ _ _ _ _ _ _ _ _ _ (c .before .before .before .before .before .before .before .before .before .before .before .before .before .before .before .before .before .before .before .before .before .loop .inv .2) _ (c .before .before .before .before .before .before .before .before .before .before .before .before .before .before .before .before .before .is-over .ensures) (c .before .before .before .before .before .before .before .before .before .before .before .before .before .before .before .before .if3 .left) _ _ _ _ _ (c .before .before .before .before .before .before .before .before .before .before .before .before .before .before .before .read-item .ensures) (c .before .before .before .before .before .before .before .before .before .before .before .before .do-item .ensures)
+loop-less-5 c = deed-less _ (c .before .before .before .before .before .before .before .before .before .before .before .before .before .before .before .before .before .before .before .before .before .loop .inv .0) _ _ _ _ _ _ _ _ _ _ _ (c .before .before .before .before .before .before .before .before .before .before .before .before .before .before .before .before .before .before .before .before .before .loop .inv .2) _ (c .before .before .before .before .before .before .before .before .before .before .before .before .before .before .before .before .before .is-over .ensures) (c .before .before .before .before .before .before .before .before .before .before .before .before .before .before .before .before .if3 .left) _ _ _ _ _ (c .before .before .before .before .before .before .before .before .before .before .before .before .before .before .before .read-item .ensures) (c .before .before .before .before .before .before .before .before .before .before .before .before .do-item .ensures)
 
 loop-again-5 : tie.Need-loop-again-5 Inv-loop μ-loop
-loop-again-5 c = (c .before .before .before .before .before .before .before .before .before .before .before .before .before .before .before .before .before .before .before .before .before .loop .inv .0, c .before .before .before .before .before .before .before .before .before .before .before .before .before .before .before .before .before .before .before .before .before .loop .inv .1, telling-deed _ (c .before .before .before .before .before .before .before .before .before .before .before .before .before .before .before .before .before .before .before .before .before .loop .inv .0) _ _ _ _ _ _ _ _ _ _ (c .before .before .before .before .before .before .before .before .before .before .before .before .before .before .before .before .before .before .before .before .before .loop .inv .2) _ (c .before .before .before .before .before .before .before .before .before .before .before .before .before .before .before .before .before .is-over .ensures) (c .before .before .before .before .before .before .before .before .before .before .before .before .before .before .before .before .if3 .left) _ _ _ _ _ (c .before .before .before .before .before .before .before .before .before .before .before .before .before .before .before .read-item .ensures) (c .before .before .before .before .before .before .before .before .before .before .before .before .do-item .ensures) _ (emptied-there _ _ _ (c .before .before .before .before .before .before .before .before .before .before .before .before .do-item .result) _ (c .enum-told4 .given .1) refl) (c .before .before .before .before .before .before .before .before .before .before .before .before .do-item .last .0) _ _ (c .before .before .before .before .before .before .before .before .before .before .before .room2 .given .0) (c .before .before .before .before .write-done .ensures))
+loop-again-5 c = (c .before .before .before .before .before .before .before .before .before .before .before .before .before .before .before .before .before .before .before .before .before .loop .inv .0, c .before .before .before .before .before .before .before .before .before .before .before .before .before .before .before .before .before .before .before .before .before .loop .inv .1, telling-deed _ (c .before .before .before .before .before .before .before .before .before .before .before .before .before .before .before .before .before .before .before .before .before .loop .inv .0) _ _ _ _ _ _ _ _ _ _ _ (c .before .before .before .before .before .before .before .before .before .before .before .before .before .before .before .before .before .before .before .before .before .loop .inv .2) _ (c .before .before .before .before .before .before .before .before .before .before .before .before .before .before .before .before .before .is-over .ensures) (c .before .before .before .before .before .before .before .before .before .before .before .before .before .before .before .before .if3 .left) _ _ _ _ _ (c .before .before .before .before .before .before .before .before .before .before .before .before .before .before .before .read-item .ensures) (c .before .before .before .before .before .before .before .before .before .before .before .before .do-item .ensures) (c .before .before .before .before .before .before .before .before .before .before .before .before .before .before .before .before .before .before .before .before .if1 .left) _ (emptied-there _ _ _ (c .before .before .before .before .before .before .before .before .before .before .before .before .do-item .result) _ (c .enum-told4 .given .1) refl) (c .before .before .before .before .before .before .before .before .before .before .before .before .do-item .last .0) _ _ (c .before .before .before .before .before .before .before .before .before .before .before .room2 .given .0) (c .before .before .before .before .write-done .ensures))
 
 pub write-stream-spec : {M : Type 1} → statement M
 write-stream-spec =
@@ -159,9 +157,8 @@ write-stream-spec =
     same-length
     returns
     text-next-requires
-    typed-at-requires
-    shared-slice-read-marked
-    marked-requires
+    shared-slice-read-typed-pen
+    typed-pen-requires
     shared-slice-read-write-one
     write-one-requires
     add-at

@@ -35,26 +35,23 @@ loop-holds c = (c .before .before .before .before .before .before .before .pre .
 text-next-requires : tie.Need-text-next-requires Inv-loop μ-loop
 text-next-requires c κs = search needs
 
-typed-at-requires : tie.Need-typed-at-requires Inv-loop μ-loop
-typed-at-requires c κs = search needs
+shared-slice-read-typed-pen : tie.Need-shared-slice-read-typed-pen Inv-loop μ-loop
+shared-slice-read-typed-pen c = text-told (c .before .before .before .before .before .before .before .before .before .before .before .before .args .s .now) (c .before .before .before .before .loop .at) (c .before .before .before .before .loop .sequence) _ (c .before .before .text-next .ensures) (c .before .if1 .taken) .inside
 
-shared-slice-read-marked : tie.Need-shared-slice-read-marked Inv-loop μ-loop
-shared-slice-read-marked c = text-told (c .before .before .before .before .before .before .before .before .before .before .before .before .before .before .before .args .s .now) (c .before .before .before .before .before .before .before .loop .at) (c .before .before .before .before .before .before .before .loop .sequence) _ (c .before .before .before .before .before .text-next .ensures) (c .before .before .before .before .if1 .taken) .inside
-
-marked-requires : tie.Need-marked-requires Inv-loop μ-loop
-marked-requires c κs = search needs
+typed-pen-requires : tie.Need-typed-pen-requires Inv-loop μ-loop
+typed-pen-requires c κs = search needs
 
 add-at : tie.Need-add-at Inv-loop μ-loop
-add-at c = record { fits = omega (arith, text-told (c .before .before .before .before .before .before .before .before .before .before .before .before .before .before .before .before .args .s .now) (c .before .before .before .before .before .before .before .before .loop .at) (c .before .before .before .before .before .before .before .before .loop .sequence) _ (c .before .before .before .before .before .before .text-next .ensures) (c .before .before .before .before .before .if1 .taken) .inside, c .before .before .before .before .before .before .before .before .before .before .before .before .before .before .before .before .good .1 .1 .0) }
+add-at c = record { fits = omega (arith, text-told (c .before .before .before .before .before .before .before .before .before .before .before .before .before .args .s .now) (c .before .before .before .before .before .loop .at) (c .before .before .before .before .before .loop .sequence) _ (c .before .before .before .text-next .ensures) (c .before .before .if1 .taken) .inside, c .before .before .before .before .before .before .before .before .before .before .before .before .before .good .1 .1 .0) }
 
 add-done : tie.Need-add-done Inv-loop μ-loop
-add-done c = search needs
+add-done c = record { fits = omega (arith, c .before .before .before .before .loop-test .taken, c .before .before .before .before .before .before .before .before .before .before .before .before .before .fits .allowance .fits) }
 
 loop-less : tie.Need-loop-less Inv-loop μ-loop
 loop-less c = search needs
 
 loop-again : tie.Need-loop-again Inv-loop μ-loop
-loop-again c = (c .before .before .before .before .before .before .before .before .loop .inv .0, c .before .before .before .before .before .before .before .before .loop .inv .1, turn-text _ (c .before .before .before .before .before .before .before .before .loop .inv .0) _ _ _ _ _ _ _ _ _ (c .before .before .before .before .before .before .before .before .loop .inv .2) _ _ _ (c .before .before .before .before .before .before .before .loop-test .taken) (c .before .before .before .before .before .before .text-next .ensures) (c .before .before .before .before .before .if1 .taken) (c .before .before .typed-at .ensures) (c .marked .ensures), c .before .before .before .before .before .before .before .before .loop .inv .3)
+loop-again c = (c .before .before .before .before .before .loop .inv .0, c .before .before .before .before .before .loop .inv .1, turn-text _ (c .before .before .before .before .before .loop .inv .0) _ _ _ _ _ _ _ _ _ _ _ (c .before .before .before .before .before .loop .inv .2) _ _ (c .before .before .before .before .loop-test .taken) (c .before .before .before .text-next .ensures) (c .before .before .if1 .taken) (c .typed-pen .ensures), c .before .before .before .before .before .loop .inv .3)
 
 is-over-requires : tie.Need-is-over-requires Inv-loop μ-loop
 is-over-requires c κs = search needs
@@ -149,9 +146,8 @@ run-items-spec =
     pen-of-requires
     loop-holds
     text-next-requires
-    typed-at-requires
-    shared-slice-read-marked
-    marked-requires
+    shared-slice-read-typed-pen
+    typed-pen-requires
     add-at
     add-done
     loop-less
