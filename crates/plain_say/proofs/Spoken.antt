@@ -16,9 +16,9 @@ use Rattle.rules.specs.declared.Verdict.{Verdict}
 use Rattle.rules.specs.declared.Verdict.the-variants.{Carried, Refused}
 use Rattle.rules.specs.declared.Translated.{Translated}
 use Rattle.rules.specs.Measure.{allowed, measureOf, isTooLong}
-use Rattle.rules.specs.Findings.{refusalNumber, isRefused}
+use Rattle.rules.specs.Findings.{isRefused}
 use Rattle.rules.specs.Plain.{plain, Translation, translation, refusedRoom, noRoom, translate}
-use Rattle.rules.specs.Report.{line, REFUSED, refusedLine}
+use Rattle.rules.specs.Report.{refusedLine}
 use Rattle.theorems.specs.Statements.{TranslatePromise}
 use Rattle.plain_say.specs.declared.Saying.{Saying}
 use Rattle.plain_say.specs.Said.{saidBy, verdictOf, said, SaysRefused, Says, OneSaying}
@@ -27,8 +27,8 @@ abbrev sayingOf : Bool → ℕ → Saying
 sayingOf t n = record { refused = t; end = n }
 
 -- a refusal
-pub refused-said : (why : Refusal) (room after : List ℕ) (n end : ℕ) → n ≡ refusalNumber why → Wrote room 0 (line REFUSED (n ∷ []) []) after end → SaysRefused why room (sayingOf true end) after
-refused-said why room after n end e w = record { refused = refl; line = rw e at w }
+pub refused-said : (why : Refusal) (room after : List ℕ) (end : ℕ) → Wrote room 0 (refusedLine why) after end → SaysRefused why room (sayingOf true end) after
+refused-said why room after end w = record { refused = refl; line = w }
 
 -- a translation by its verdict: the plain stream in the room, or the room as it was
 abbrev Stands : List ℕ → List ℕ → Verdict → Translation → Type 0
