@@ -144,16 +144,18 @@ unread() {
   right "says: $(cat errors)" [ "$(cat errors)" = UNREAD ]
   right "prints" [ ! -s printed ]
 }
-memory=/proc/self/mem # its first byte cannot be read: EIO
+memory=/proc/self/mem # its first byte cannot be read: EIO; as long as the process that opened it goes on
+exec {opened}<"$memory"
 breaks="python3 $root/tests/breaks.py"
 for name in report pages plain; do
   program=("$root/target/bin/$name")
   [ -z "${x86_emulator-}" ] || program=("$x86_emulator" "${program[@]}")
-  for given in / "$memory"; do
-    said="target/bin/$name <$given"
-    "${program[@]}" <"$given" >printed 2>errors
-    unread
-  done
+  said="target/bin/$name </"
+  "${program[@]}" </ >printed 2>errors
+  unread
+  said="target/bin/$name <$memory"
+  "${program[@]}" <&"$opened" >printed 2>errors
+  unread
   said="target/bin/$name <&-"
   "${program[@]}" >printed 2>errors <&-
   unread
