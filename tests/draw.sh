@@ -45,18 +45,33 @@ head -c 1048577 /dev/zero >long.pcl
 call draw long.pcl -o new/folder
 refuses "refused, number 12: job longer than 1,048,576 bytes"
 
-# Standard input: named, not named, closed.
+# Standard input: named, not named; and a job of no bytes.
 call draw 640 800 - -o new <clean.pcl
 ends 0 "1 page, 0 findings, 9 dots: new"
 call draw -o new <clean.pcl
 ends 0 "1 page, 0 findings, 9 dots: new"
-call draw -o new <&-
+call draw -o new /dev/null
 ends 0 "0 pages, 0 findings, 0 dots: new"
 right "another page stays" [ ! -e new/page-1.png ]
 call draw "-o" "a folder" clean.pcl
 ends 0 "1 page, 0 findings, 9 dots: a folder"
 LC_ALL=C.UTF-8 call draw -o $'\377' clean.pcl # a name that is no text
 ends 0 "1 page, 0 findings, 9 dots: ?"
+
+# A job that cannot be read: no picture, of this job or of an earlier one.
+call draw -o new clean.pcl
+call draw -o new /proc/self/mem
+refuses "rovinuset: draw: the job could not be read: Input/output error"
+has new folder
+call draw -o new clean.pcl
+for kind in socket network busy; do
+  said="draw, $kind" status=0
+  python3 "$root/tests/breaks.py" $kind "${command[@]}" draw -o new >printed 2>errors || status=$?
+  refuses "rovinuset: draw: the job could not be read: "
+  has new folder
+done
+call draw -o none <&-
+refuses "the job could not be read: standard input is closed"
 
 # Wrong words and files: nothing is made.
 mkdir other

@@ -53,7 +53,7 @@ ends 1 "1 page, 9 findings, 93504 dots: record.html"
 right "does not name standard input" grep -q '<h1>Record of standard input</h1>' record.html
 call record 640 800 clean.pcl -o record.html
 ends 0 "1 page, 0 findings, 9 dots: record.html"
-call record -o record.html <&-
+call record -o record.html /dev/null
 ends 0 "0 pages, 0 findings, 0 dots: record.html"
 call record 641 800 clean.pcl -o record.html
 refuses "refused, number 10: page measure not allowed"
@@ -86,6 +86,19 @@ cp clean.pcl job.pcl
 call record job.pcl -o ./job.pcl
 refuses "the record would be written over the job: ./job.pcl"
 right "the job is another" cmp -s clean.pcl job.pcl
+# A job that cannot be read has no record.
+for goal in record.html none.html; do
+  call record /proc/self/mem -o $goal
+  refuses "rovinuset: record: the job could not be read: Input/output error"
+  call record -o $goal <&-
+  refuses "the job could not be read: standard input is closed"
+  for kind in socket network busy; do
+    said="record, $kind" status=0
+    python3 "$root/tests/breaks.py" $kind "${command[@]}" record -o $goal >printed 2>errors || status=$?
+    refuses "rovinuset: record: the job could not be read: "
+  done
+done
+right "it has a record" [ ! -e none.html ]
 right "the record is another" cmp -s first.html record.html
 
 # Disks that are full: nothing is left under the name, and a record that was there stays.

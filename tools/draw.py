@@ -4,8 +4,8 @@
     draw.py FOLDER NAME WIDTH HEIGHT COMMAND..    the job is standard input, COMMAND runs the proved program `pages`
 
 The folder always tells of one job. Pictures (page-1.png, ..) and findings.txt of an earlier job are removed first; other files stay. If
-something cannot be written, what was written of this job is removed too. findings.txt comes last. A refused job has findings.txt alone.
-Exit status: 0 clean, 3 findings, 2 refused or not written.
+something cannot be written, what was written of this job is removed too. findings.txt comes last. A refused job has findings.txt alone, one that
+cannot be read has nothing. Exit status: 0 clean, 3 findings, 2 refused, not read or not written.
 """
 
 import hashlib
@@ -76,8 +76,8 @@ def told(name, width, height, job, lines, digests):
 
 
 def draw(folder, name, width, height, command):
-    job, lines = pages.read_job(sys.stdin.buffer), findings.Lines()
-    clear(folder)
+    clear(folder)  # first: the pictures of an earlier job are not to be taken for those of one that cannot be read
+    job, lines = pages.read_job(), findings.Lines()
     try:
         with progress.Progress(lambda: f"{len(lines.dots)} pages, {len(lines.places)} findings so far"):
             digests = draw_pages(folder, width, height, job, command, lines)
@@ -86,7 +86,7 @@ def draw(folder, name, width, height, command):
     except BaseException:
         clear(folder)
         raise
-    return ending.told_end("draw", lines, folder)
+    return ending.told_end("draw", lines, folder, sys.stdout)
 
 
 def main(words):

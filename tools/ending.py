@@ -10,13 +10,13 @@ import pages
 FINDINGS = 3
 
 
-def told_end(word, lines, goal):
+def told_end(word, lines, goal, to):
     """Says how the job ended and where it is written, a refusal on standard error, and gives the exit status. A failed write is seen at once."""
     if lines.refused is not None:
         print(f"rovinuset: {word}: refused, number {lines.refused}: {findings.REFUSALS[lines.refused]}", file=sys.stderr)
     else:
-        sys.stdout.write("\n".join(findings.summary(lines)) + f": {goal}\n")
-        sys.stdout.flush()
+        to.write("\n".join(findings.summary(lines)) + f": {goal}\n")
+        to.flush()
     return FINDINGS if lines.status() == 1 else lines.status()
 
 
@@ -26,14 +26,16 @@ def ended(word, main, words):
     sys.stdout.reconfigure(errors="replace")  # a folder's name may be any bytes
     try:
         return main(words)
+    except pages.Unread as error:
+        what = f"the job could not be read: {error}"
     except OSError as error:
-        why = files.reason(error)
+        what = f"not written: {files.reason(error)}"
     except pages.Broken as error:
-        why = f"the program broke off: {error}"
+        what = f"not written: the program broke off: {error}"
     except KeyboardInterrupt:
-        why = "stopped"
+        what = "not written: stopped"
     except MemoryError:
-        why = "not enough memory"
-    print(f"rovinuset: {word}: not written: {why}", file=sys.stderr)
+        what = "not written: not enough memory"
+    print(f"rovinuset: {word}: {what}", file=sys.stderr)
     sys.stdout = None  # what could not be printed is not tried again
     return 2

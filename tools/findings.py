@@ -36,7 +36,7 @@ REFUSALS = {
     12: "job longer than 1,048,576 bytes",
     13: "the handed state is not sound",
     14: "start place after the end of the job",
-    15: "translation longer than the room given",
+    15: "translation longer than the room given, or than 1,048,576 bytes",
 }
 DAMAGED_ROW = 7
 

@@ -2,9 +2,11 @@
 
 import hashlib
 import io
+import os
 import subprocess
 import threading
 
+import files
 import findings
 
 LONGEST = 1048576
@@ -15,9 +17,21 @@ class Broken(Exception):
     """The program did not come to its end, or its pages and lines do not agree."""
 
 
-def read_job(stream):
-    """The job; of a longer one than allowed a byte more than allowed, so that the program refuses it."""
-    return stream.read(LONGEST + 1)
+class Unread(Exception):
+    """The job could not be read to its end."""
+
+
+def read_job():
+    """Standard input to its end; of a longer job than allowed a byte more than allowed, so that the program refuses it. Read by the system's own
+    call: Python's streams take a read that would block for the end."""
+    parts, left = [], LONGEST + 1
+    try:
+        while part := os.read(0, left):
+            parts.append(part)
+            left -= len(part)
+    except OSError as error:
+        raise Unread(files.reason(error)) from error
+    return b"".join(parts)
 
 
 def digest(width, height, page):

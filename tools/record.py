@@ -3,7 +3,7 @@
 
     record.py FILE NAME WIDTH HEIGHT COMMAND..    the job is standard input, COMMAND runs the proved program `pages`
 
-A refused job has a record too, which says so. Exit status: 0 clean, 3 findings, 2 refused or not written.
+A refused job has a record too, which says so; one that cannot be read has none. Exit status: 0 clean, 3 findings, 2 refused, not read or not written.
 """
 
 import hashlib
@@ -124,13 +124,13 @@ def so_far(facts):
 
 def main(words):
     path, name, width, height, *command = words
-    job = pages.read_job(sys.stdin.buffer)
+    job = pages.read_job()
     facts = Facts(files.shown(name), int(width), int(height), job, command)
     with progress.Progress(lambda: so_far(facts)):
         gathered(facts)
         text = recordhtml.record(facts)
         files.write_whole(path, text.encode("utf-8"))
-    return ending.told_end("record", facts.lines, path)
+    return ending.told_end("record", facts.lines, path, sys.stdout)
 
 
 if __name__ == "__main__":

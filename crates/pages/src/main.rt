@@ -1,9 +1,9 @@
 // The pages of standard input as PBM on standard output, one after the other, and the report's lines on standard error as they come.
 // The page measure is given by two words; without them it is 2552 by 3304. One byte more than the limit is read, so that a longer
-// input is seen to be longer. A page is written before its line: what PAGE and END tell of is written. If a write fails the
-// program stops and says UNWRITTEN.
+// input is seen to be longer. A page is written before its line: what PAGE and END tell of is written. If the input cannot be read the
+// program says UNREAD and nothing else; if a write fails it stops and says UNWRITTEN.
+use given::Given;
 use libc::STDERR_FILENO;
-use libc::STDIN_FILENO;
 use libc::STDOUT_FILENO;
 ghost use mathlib.Core.Path.{_≡_};
 ghost use mathlib.Core.Bool.{true};
@@ -15,26 +15,11 @@ ghost use Rattle.pages_open.specs.Opening.{longestLines};
 use rules::State;
 use rules::Verdict;
 
-// A place for the longest job and one byte, in zeros. A function of its own hides the zeros, of which no proof can count so many.
-fn longest_input() -> [u8; 1048577] {
-    [0u8; 1048577]
-}
-
 // A place for the largest page, 4,800 by 6,800 dots.
 fn largest_page() -> [u8; 4080000]
     ensures { λ r. ⌜ 4080000 ≡ length r ⌝ }
 {
     [0u8; 4080000]
-}
-
-// The measure that word i of the command line gives, or another where there is no such word. A word that is too long is no measure.
-fn measure_word(i: usize, otherwise: usize) -> usize {
-    if os::arg_count() <= i {
-        return otherwise;
-    }
-    let mut word = [0u8; 20];
-    let n = os::arg(i, &mut word);
-    number_word::measure_of_word(&word[..n])
 }
 
 // The state before the first step.
@@ -139,10 +124,13 @@ fn write_job(w: usize, h: usize, s: &[u8]) -> bool {
 }
 
 fn main() {
-    let w = measure_word(1, 2552);
-    let h = measure_word(2, 3304);
-    let mut input = longest_input();
-    let n = io::read_full(STDIN_FILENO, &mut input);
+    let w = given::measure_word(1, 2552);
+    let h = given::measure_word(2, 3304);
+    let mut input = given::longest_input();
+    let Given::Job(n) = given::read_job(&mut input) else {
+        io::write_all(STDERR_FILENO, b"UNREAD\n");
+        return;
+    };
     if !write_job(w, h, &input[..n]) {
         io::write_all(STDERR_FILENO, b"UNWRITTEN\n");
     }

@@ -1,8 +1,8 @@
-// The report of standard input on standard output, or UNWRITTEN on standard error where it cannot be written.
-// One byte more than the limit is read, so that a longer input is seen to be longer. The room is that of the longest report, so by
-// the contract of `write_report` what is written is the whole report of what was read.
+// The report of standard input on standard output, or one line on standard error: UNREAD where the input cannot be read, UNWRITTEN where
+// the report cannot be written. One byte more than the limit is read, so that a longer input is seen to be longer. The room is that of the
+// longest report, so by the contract of `write_report` what is written is the whole report of what was read.
+use given::Given;
 use libc::STDERR_FILENO;
-use libc::STDIN_FILENO;
 use libc::STDOUT_FILENO;
 ghost use mathlib.Core.Path.{_≡_};
 ghost use lib.ListN.{length};
@@ -17,7 +17,10 @@ fn longest_room() -> [u8; 2228358]
 
 fn main() {
     let mut input = [0u8; 65537];
-    let n = io::read_full(STDIN_FILENO, &mut input);
+    let Given::Job(n) = given::read_job(&mut input) else {
+        io::write_all(STDERR_FILENO, b"UNREAD\n");
+        return;
+    };
     let mut room = longest_room();
     let end = report_write::write_report(&input[..n], &mut room);
     if !io::write_all(STDOUT_FILENO, &room[..end]) {
