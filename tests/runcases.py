@@ -431,14 +431,15 @@ class Runs(leafcases.Cases):
             return b""
         return self.one_of(self.pool) if share < 0.95 else self.pieces(3)
 
-    def handed(self, afresh):
-        """What is handed to a run or to a step, before its own numbers, and the stream. A state afresh is written by `afresh`."""
+    def handed(self, afresh, body):
+        """What is handed to a run or to a step, before its own numbers, and the stream. A state afresh is written by `afresh`; what
+        stands from the place on is mostly by `body`."""
         faults = self.faults(FAULTS)
         wide, high = self.measure()
         state = None
         if 13 in faults or self.share() < 0.6:
             state = self.sound_state(wide, high)
-        before, body = self.start(), self.body()
+        before, body = self.start(), body()
         if state and state[14] and self.share() < 0.85:
             body = self.continued(state[14]) + body
         stream = before + body
@@ -467,13 +468,23 @@ class Runs(leafcases.Cases):
         return f"{wide} {high} {buffer} {self.fill()} {handed} {place}", text
 
     def case_r(self):
-        handed, text = self.handed(lambda wide, high: "-")
+        handed, text = self.handed(lambda wide, high: "-", self.body)
         return f"R {handed} {self.allowance()} {text}"
 
     def case_s(self):
         """The state is always written out: the library of steps has none to ask for."""
-        handed, text = self.handed(lambda wide, high: self.state_text(self.afresh(wide, high)))
+        handed, text = self.handed(lambda wide, high: self.state_text(self.afresh(wide, high)), self.step_body)
         return f"S {handed} {self.step_count()} {self.step_count()} {self.step_room()} {text}"
+
+    def step_body(self):
+        """Now and then rows without a finding, and mostly the end of their page: else few steps get so far."""
+        if self.share() < 0.85:
+            return self.body()
+        parts = [ESC + b"*p%dx%dY" % (self.below(60), self.below(20))]
+        for _ in range(self.between(1, 4)):
+            row = self.bytes(self.between(1, 6))
+            parts += ESC + b"*b0m%dW" % len(row), row
+        return b"".join(parts) + self.one_of((b"\f", b"A\r\f", b"\x1bE", b"\x1b&k2G\f", b"")) + self.pieces(2)
 
     def step_count(self):
         """A page number or a count of findings."""
