@@ -247,7 +247,7 @@ fn hash(bytes: &[u8]) -> String {
     format!("{:016x}", fnv1a(bytes))
 }
 
-/// END, LINES and ROOM of these lines in a room of this length.
+/// END, LINES and RHASH of these lines in a room of this length.
 fn room(lines: &str, length: usize) -> String {
     let mut room = vec![ROOM_FILL; length];
     let end = write_front(&mut room, lines.as_bytes());
