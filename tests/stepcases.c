@@ -2,15 +2,8 @@
  * what comes out must be what the second program says, line for line. Each step is made a second time with a room that is long enough: but
  * for the lines that have no room, both must give the same. Where something is amiss, the case's line says what instead of its result.
  * MET is written: how often each outcome came up. With -DPLAIN a step by the plain C reader of bench/ stands in for the proved archive. */
+#include "../include/leaves.h"
 #include "runs.h"
-
-#ifdef PLAIN
-#define rov_step plain_step
-static
-#endif
-uint32_t rov_step(size_t w, size_t h, uint8_t *page, size_t page_length, const uint8_t *stream, size_t stream_length, uint8_t *state,
-                  size_t state_length, size_t *place, size_t *number, size_t *findings, uint8_t *room, size_t room_length, size_t *end,
-                  size_t *has_page, size_t *over);
 
 enum { MOST_ROOM = 8000000, ENOUGH = 256, ROOM_FILL = '.', OTHER_FILL = '#' }; /* ENOUGH: more than the lines of any step */
 
@@ -47,6 +40,7 @@ static size_t page_number, findings, room_length; /* the case's */
 
 /* ---- a step in plain C */
 #ifdef PLAIN
+#define rov_step plain_step
 static int end_lines(char *lines, const uint8_t *state, size_t number, size_t found, size_t dots) {
     int n = state[ROV_USED] ? sprintf(lines, "PAGE\t%zu\t%zu\n", number, dots) : 0;
     return n + sprintf(lines + n, "END\t%u\t%u\t%u\t%zu\n", (unsigned)get(state, ROV_X, 4), (unsigned)get(state, ROV_Y, 4), state[ROV_DEPTH], found);
