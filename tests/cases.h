@@ -57,6 +57,13 @@ static inline void check_stream(void) {
     check_guards(&stream, "guards of the stream");
 }
 
+static inline bool is_filled(const uint8_t *bytes, size_t n, uint8_t fill) {
+    return n == 0 || (bytes[0] == fill && memcmp(bytes, bytes + 1, n - 1) == 0);
+}
+
+/* A pointer to no bytes is not read. */
+static inline uint8_t *pointer(const struct lent *l) { return l->n ? l->bytes : NULL; }
+
 /* ---- words */
 static inline int digit(char c) {
     if (c >= '0' && c <= '9') return c - '0';

@@ -1,11 +1,11 @@
-# What door.sh and translations.sh share: cases through a driver in C and through the second program. To be sourced at the project's root.
+# What door.sh, steps.sh and translations.sh share: cases through a driver in C and through the second program. To be sourced at the project's root.
 export LC_ALL=C
 . tests/need.sh
 . tests/x86.sh
 
-# begin NAME DRIVER [COUNT [SEED [plain]]]: makes both programs; the driver over the proved archive, or over the plain C reader of bench/.
+# begin NAME DRIVER CRATE [COUNT [SEED [plain]]]: makes both programs; the driver over the crate's proved archive, or over the plain C reader of bench/.
 begin() {
-  name=$1 count=${3:-5000} seed=${4:-1} side=${5:-proved}
+  name=$1 count=${4:-5000} seed=${5:-1} side=${6:-proved}
   case $side in proved | plain) ;; *) echo "usage: $name.sh [COUNT [SEED [plain]]]" >&2; exit 1 ;; esac
   need python3 python3
   room=$(mktemp -d)
@@ -17,8 +17,8 @@ begin() {
   if [ "$side" = plain ]; then
     x86_cc -O2 -Wall -Wextra -DPLAIN "tests/$2.c" bench/reader.c bench/plain.c -o "$room/driver"
   else
-    archive door
-    x86_cc -O2 -Wall -Wextra "tests/$2.c" target/staticlib/libdoor.a -o "$room/driver"
+    archive "$3"
+    x86_cc -O2 -Wall -Wextra "tests/$2.c" "target/staticlib/lib$3.a" -o "$room/driver"
   fi
 }
 

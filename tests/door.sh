@@ -5,6 +5,6 @@
 set -eu
 cd "$(dirname "$0")/.."
 . tests/compare.sh
-begin door doorcases "$@"
+begin door doorcases door "$@"
 chunks R
 end

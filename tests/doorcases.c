@@ -2,20 +2,12 @@
  * what the second program says, line for line. Each case is run a second time in pieces, and the other calls are held against the run;
  * where something is amiss, the case's line says what instead of its result. MET is written: how often each outcome came up.
  * With -DPLAIN the plain C reader of bench/ stands in for the proved archive. */
-#include "cases.h"
+#include "runs.h"
 
-enum { MOST_PAGE = 8000000, STACK = 20, SEED_ROW = 600 };
-
-enum { PAGE_ENDED = FINDINGS, REFUSED, REFUSALS = 5, FIRST_REFUSAL = ROV_REFUSED_PAGE_MEASURE }; /* the findings come first, the refusals last */
+enum { PAGE_ENDED = FINDINGS, REFUSED }; /* the findings come first, the refusals last */
 static const char *const outcomes[] = {
     "no finding", "finding 1", "finding 2", "finding 3", "finding 4", "finding 5", "finding 6", "finding 7", "page ended",
     "refused 10", "refused 11", "refused 12", "refused 13", "refused 14"};
-
-struct case_line {
-    size_t wide, high, place, allowance;
-    uint8_t fill;
-    uint8_t state[ROV_STATE]; /* as handed in */
-};
 
 /* What a call gives in numbers, with guards between them. */
 struct numbers {
@@ -33,91 +25,41 @@ struct numbers {
 };
 
 static struct lent page, pieces_page, state, pieces_state;
+static size_t allowance; /* the case's */
 
 /* ---- reading a case */
-static void put(uint8_t *s, size_t at, size_t bytes, uint64_t n) {
-    for (size_t i = 0; i < bytes; i++, n >>= 8) s[at + i] = (uint8_t)n;
-    if (n) bad();
-}
-
-static uint64_t get(const uint8_t *s, size_t at, size_t bytes) {
-    uint64_t n = 0;
-    for (size_t i = bytes; i > 0; i--) n = n << 8 | s[at + i - 1];
-    return n;
-}
-
-/* The numbers of a state's text, in its order. */
-static const struct { size_t at, bytes; } members[14] = {
-    {ROV_X, 4}, {ROV_Y, 4}, {ROV_LEFT, 4}, {ROV_RIGHT, 4}, {ROV_TOP, 4}, {ROV_HMI, 4}, {ROV_VMI, 4}, {ROV_TERMINATION, 1},
-    {ROV_RESOLUTION, 2}, {ROV_METHOD, 1}, {ROV_STARTED, 1}, {ROV_MARGIN, 4}, {ROV_USED, 1}, {ROV_DEPTH, 8}};
-
-static void pair_of(char *word, uint8_t *s, size_t at, size_t bytes) {
-    put(s, at, bytes, number_of(split(&word, ':')));
-    put(s, at + bytes, bytes, number_of(split(&word, ':')));
-}
-
-static void state_of(char *word, uint8_t *s) {
-    char *sequence, *stack;
-    memset(s, 0, ROV_STATE);
-    for (size_t i = 0; i < 14; i++) put(s, members[i].at, members[i].bytes, number_of(split(&word, ',')));
-    sequence = split(&word, ',');
-    stack = split(&word, ',');
-    if (strcmp(sequence, "-")) pair_of(sequence, s, ROV_FIRST, 1);
-    if (strcmp(stack, "-") == 0) stack = NULL;
-    for (size_t i = 0; stack; i++) {
-        if (i == STACK) bad();
-        pair_of(split(&stack, ';'), s, ROV_STACK + 8 * i, 4);
-    }
-    hex_of(split(&word, ','), s + ROV_SEED, SEED_ROW);
-}
-
 /* The state `-` is what the door itself says is afresh; of 640 x 800 where the measure is not allowed. */
 static void afresh_of(size_t wide, size_t high, uint8_t *s) {
     uint32_t short_code, code;
     memset(s, JUNK, ROV_STATE);
     short_code = rov_afresh(wide, high, s, ROV_STATE - 1);
-    for (size_t i = 0; i < ROV_STATE; i++)
-        if (s[i] != JUNK) blame("afresh wrote into a short state");
+    if (!is_filled(s, ROV_STATE, JUNK)) blame("afresh wrote into a short state");
     code = rov_afresh(wide, high, s, ROV_STATE);
     if (short_code != (code ? 10 : 13)) blame("afresh's number for a short state");
     if (code == 0) return;
     if (code != 10) blame("afresh's number");
-    for (size_t i = 0; i < ROV_STATE; i++)
-        if (s[i] != JUNK) blame("afresh wrote though it refused");
+    if (!is_filled(s, ROV_STATE, JUNK)) blame("afresh wrote though it refused");
     rov_afresh(640, 800, s, ROV_STATE);
 }
 
 static void read_case(char *line, struct case_line *c) {
     char *w[9];
     words_of(line, "R", w, 9);
-    if (number_of(w[3]) >= MOST_PAGE) bad();
-    c->wide = number_of(w[1]);
-    c->high = number_of(w[2]);
-    set_length(&page, number_of(w[3]));
-    c->fill = fill_of(w[4]);
-    if (strcmp(w[5], "-")) state_of(w[5], c->state);
-    else afresh_of(c->wide, c->high, c->state);
-    c->place = number_of(w[6]);
-    c->allowance = number_of(w[7]);
+    handed_of(w, c);
+    if (strcmp(w[5], "-") == 0) afresh_of(c->wide, c->high, c->state);
+    allowance = number_of(w[7]);
     stream_of(w[8]);
 }
 
 /* ---- the calls */
-static void lend(const struct case_line *c, struct lent *p, struct lent *s) {
-    set_length(p, page.n);
-    memset(p->bytes, c->fill, p->n);
-    set_length(s, ROV_STATE);
-    memcpy(s->bytes, c->state, ROV_STATE);
-}
-
 static struct numbers start_at(size_t place) {
     return (struct numbers){JUNK, place, JUNK, JUNK, JUNK, JUNK, JUNK, JUNK, JUNK, JUNK, JUNK, JUNK};
 }
 
-static void call(const struct case_line *c, struct lent *p, struct lent *s, size_t allowance, struct numbers *x) {
+static void call(const struct case_line *c, struct lent *p, struct lent *s, size_t most, struct numbers *x) {
     x->finding = JUNK;
     x->done = x->found = x->ended = JUNK;
-    x->refusal = rov_run(c->wide, c->high, p->bytes, p->n, stream.bytes, stream.n, s->bytes, s->n, allowance,
+    x->refusal = rov_run(c->wide, c->high, p->bytes, p->n, stream.bytes, stream.n, s->bytes, s->n, most,
                          &x->place, &x->done, &x->finding, &x->found, &x->ended);
     if (x->guard0 != JUNK || x->guard1 != JUNK || x->guard2 != JUNK || x->guard3 != JUNK || x->guard4 != JUNK || x->guard5 != JUNK)
         blame("guards of the numbers");
@@ -131,7 +73,7 @@ static void call(const struct case_line *c, struct lent *p, struct lent *s, size
 /* The run in pieces of 0, 1, 2, 3, .. items must give what the run at once gave. */
 static void run_in_pieces(const struct case_line *c, const struct numbers *once) {
     struct numbers x = start_at(c->place);
-    size_t left = c->allowance, done = 0;
+    size_t left = allowance, done = 0;
     lend(c, &pieces_page, &pieces_state);
     for (size_t piece = 0;; piece++) {
         size_t most = piece < left ? piece : left;
@@ -153,10 +95,9 @@ static void refused_call(const struct case_line *c, size_t at, uint8_t byte, siz
     pieces_state.bytes[at] = byte;
     memcpy(was, pieces_state.bytes, ROV_STATE);
     if (state_n < ROV_STATE) set_length(&pieces_state, state_n);
-    call(c, &pieces_page, &pieces_state, c->allowance, &x);
+    call(c, &pieces_page, &pieces_state, allowance, &x);
     if (x.refusal != 13 || x.place != c->place || memcmp(was, pieces_state.bytes, state_n)) blame(what);
-    for (size_t i = 0; i < pieces_page.n; i++)
-        if (pieces_page.bytes[i] != c->fill) blame(what);
+    if (!is_filled(pieces_page.bytes, pieces_page.n, c->fill)) blame(what);
 }
 
 /* What the text of a case cannot say: a state that is too short, marks that are neither 0 nor 1. */
@@ -185,26 +126,6 @@ static void check_sound(const struct case_line *c, uint32_t refusal) {
 }
 
 /* ---- writing the result */
-static void write_state(const uint8_t *s) {
-    size_t places = STACK, seed = SEED_ROW;
-    putchar(' ');
-    for (size_t i = 0; i < 14; i++) printf("%llu,", (unsigned long long)get(s, members[i].at, members[i].bytes));
-    if (s[ROV_FIRST] || s[ROV_GROUP]) printf("%u:%u,", s[ROV_FIRST], s[ROV_GROUP]);
-    else fputs("-,", stdout);
-    while (places > 0 && get(s, ROV_STACK + 8 * (places - 1), 8) == 0) places--;
-    for (size_t i = 0; i < places; i++) {
-        if (i > 0) putchar(';');
-        printf("%llu:%llu", (unsigned long long)get(s, ROV_STACK + 8 * i, 4), (unsigned long long)get(s, ROV_STACK + 8 * i + 4, 4));
-    }
-    fputs(places ? "," : "-,", stdout);
-    while (seed > 0 && s[ROV_SEED + seed - 1] == 0) seed--;
-    for (size_t i = 0; i < seed; i++) {
-        putchar("0123456789ABCDEF"[s[ROV_SEED + i] >> 4]);
-        putchar("0123456789ABCDEF"[s[ROV_SEED + i] & 15]);
-    }
-    if (!seed) putchar('-');
-}
-
 static void write_result(const struct case_line *c, const struct numbers *x) {
     size_t dots = rov_dots(c->wide, c->high, page.bytes, page.n);
     if ((x->refusal == 10 || x->refusal == 11) && dots) blame("dots of no page");
@@ -234,7 +155,7 @@ static void one_case(char *line) {
     read_case(line, &c);
     once = start_at(c.place);
     lend(&c, &page, &state);
-    call(&c, &page, &state, c.allowance, &once);
+    call(&c, &page, &state, allowance, &once);
     if (!once.refusal) run_in_pieces(&c, &once);
     check_sound(&c, once.refusal);
     if (number % NOW_AND_THEN == 0 && (!once.refusal || once.refusal >= 13)) try_more(&c);

@@ -1,10 +1,10 @@
 #!/usr/bin/env python3
-"""runcases.py R|T COUNT SEED: cases of runs or of translations, one to a line.
+"""runcases.py R|S|T COUNT SEED: cases of runs, of steps or of translations, one to a line.
 runcases.py vectors: a translation of each real stream and each of the manuals' and the paper's examples.
 
 The form of the lines is in second/README.md, mode `cases`. The streams are made
 by a grammar of PCL and out of pieces of the real streams in tests/vectors; pages,
-buffers, states, places, allowances and rooms are random and at the edges. One
+buffers, states, places, allowances, page numbers and rooms are random and at the edges. One
 letter and SEED give the same lines every time; a smaller COUNT gives the first of
 them.
 """
@@ -17,6 +17,7 @@ import leafcases
 
 LONGEST = 1048576  # the longest stream
 HUGE = 2**64 - 1  # the greatest number a line may hold
+MOST_COUNT = 2**32  # the greatest page number, and count of findings, of a step
 MOST_HMI, MOST_VMI, STACK, SEED_ROW = 1966020, 50400, 20, 600
 RESOLUTIONS = (75, 100, 150, 300)
 ESC = b"\x1b"
@@ -325,6 +326,11 @@ class Runs(leafcases.Cases):
                 self.one_of(RESOLUTIONS), self.below(4), self.below(2), margin, self.below(2), depth,
                 self.open_sequence(), stack, seed]
 
+    @staticmethod
+    def afresh(wide, high):
+        lw, lh, top = 24 * wide, 24 * high, 3600 if high > 150 else 0
+        return [0, min(lh, top + 900), 0, lw, top, 720, 1200, 0, 75, 0, 0, 0, 0, 0, None, [], b""]
+
     def open_sequence(self):
         share = self.share()
         if share < 0.65:
@@ -425,13 +431,15 @@ class Runs(leafcases.Cases):
             return b""
         return self.one_of(self.pool) if share < 0.95 else self.pieces(3)
 
-    def case_r(self):
+    def handed(self, afresh, body):
+        """What is handed to a run or to a step, before its own numbers, and the stream. A state afresh is written by `afresh`; what
+        stands from the place on is mostly by `body`."""
         faults = self.faults(FAULTS)
         wide, high = self.measure()
         state = None
         if 13 in faults or self.share() < 0.6:
             state = self.sound_state(wide, high)
-        before, body = self.start(), self.body()
+        before, body = self.start(), body()
         if state and state[14] and self.share() < 0.85:
             body = self.continued(state[14]) + body
         stream = before + body
@@ -454,10 +462,47 @@ class Runs(leafcases.Cases):
                 self.spoil(state, wide, high)
         size = wide // 8 * high
         buffer = self.short_length(size) if 11 in faults else self.length(size)
+        handed = self.state_text(state) if state else afresh(wide, high)
         if 10 in faults:
             wide, high = self.wrong_measure(wide, high)
-        handed = self.state_text(state) if state else "-"
-        return f"R {wide} {high} {buffer} {self.fill()} {handed} {place} {self.allowance()} {text}"
+        return f"{wide} {high} {buffer} {self.fill()} {handed} {place}", text
+
+    def case_r(self):
+        handed, text = self.handed(lambda wide, high: "-", self.body)
+        return f"R {handed} {self.allowance()} {text}"
+
+    def case_s(self):
+        """The state is always written out: the library of steps has none to ask for."""
+        handed, text = self.handed(lambda wide, high: self.state_text(self.afresh(wide, high)), self.step_body)
+        return f"S {handed} {self.step_count()} {self.step_count()} {self.step_room()} {text}"
+
+    def step_body(self):
+        """Now and then rows without a finding, and mostly the end of their page: else few steps get so far."""
+        if self.share() < 0.85:
+            return self.body()
+        parts = [ESC + b"*p%dx%dY" % (self.below(60), self.below(20))]
+        for _ in range(self.between(1, 4)):
+            row = self.bytes(self.between(1, 6))
+            parts += ESC + b"*b0m%dW" % len(row), row
+        return b"".join(parts) + self.one_of((b"\f", b"A\r\f", b"\x1bE", b"\x1b&k2G\f", b"")) + self.pieces(2)
+
+    def step_count(self):
+        """A page number or a count of findings."""
+        share = self.share()
+        if share < 0.6:
+            return self.below(13)
+        if share < 0.8:
+            return self.one_of((99, 100, 999, 1000, self.below(1000000)))
+        return self.one_of((MOST_COUNT, MOST_COUNT - 1, MOST_COUNT - self.below(100), 10**9 - 1, self.between(0, MOST_COUNT)))
+
+    def step_room(self):
+        """The room for a step's lines: mostly long enough."""
+        share = self.share()
+        if share < 0.7:
+            return self.one_of((184, 184, 185, 200, 4096, self.between(184, 1000)))
+        if share < 0.95:
+            return self.between(0, 75)
+        return self.below(5)
 
     def continued(self, sequence):
         """The rest of a command in this open sequence, and a few more."""
@@ -567,17 +612,20 @@ def lines(words):
     """None if the words are wrong."""
     if words == ["vectors"]:
         return vectors()
-    if len(words) != 3 or words[0] not in ("R", "T") or not (words[1].isascii() and words[1].isdigit()):
+    if len(words) != 3 or words[0] not in ("R", "S", "T") or not (words[1].isascii() and words[1].isdigit()):
         return None
     kind, count, seed = words
     cases = Runs(kind, seed)
-    return (cases.case_t(number) if kind == "T" else cases.case_r() for number in range(int(count)))
+    if kind == "T":
+        return (cases.case_t(number) for number in range(int(count)))
+    case = cases.case_r if kind == "R" else cases.case_s
+    return (case() for _ in range(int(count)))
 
 
 def main(words):
     cases = lines(words)
     if cases is None:
-        print("usage: runcases.py R|T COUNT SEED, or runcases.py vectors", file=sys.stderr)
+        print("usage: runcases.py R|S|T COUNT SEED, or runcases.py vectors", file=sys.stderr)
         return 1
     for line in cases:
         sys.stdout.write(line + "\n")

@@ -41,13 +41,6 @@ static struct lent room, tried, known; /* known: the plain stream, once it is le
 static struct job sent, plain;
 
 /* ---- calls */
-static bool is_filled(const uint8_t *bytes, size_t n, uint8_t fill) {
-    return n == 0 || (bytes[0] == fill && memcmp(bytes, bytes + 1, n - 1) == 0);
-}
-
-/* A pointer to no bytes is not read. */
-static uint8_t *pointer(const struct lent *l) { return l->n ? l->bytes : NULL; }
-
 /* A call with a room of n bytes, each of them `fill`. What no call may do is blamed here. */
 static struct numbers translate(const struct case_line *c, const struct lent *from, struct lent *to, size_t n, uint8_t fill) {
     struct numbers x = {JUNK, JUNK, JUNK, JUNK};

@@ -6,7 +6,7 @@
 set -eu
 cd "$(dirname "$0")/.."
 . tests/compare.sh
-begin translations transcases "$@"
+begin translations transcases door "$@"
 chunk vectors
 chunks T
 end

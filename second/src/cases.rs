@@ -1,5 +1,5 @@
-//! Case files: runs and translations on anything a caller might hand in, one
-//! to a line, each answered by one line.
+//! Case files: runs, steps and translations on anything a caller might hand in,
+//! one to a line, each answered by one line.
 
 use crate::dots::{count_dots, Sheet};
 use crate::measure::{Measure, LONGEST_STREAM, STACK_ROOM, WIDEST_ROW};
@@ -7,10 +7,15 @@ use crate::plain::translate;
 use crate::reader::OpenSequence;
 use crate::run::run;
 use crate::state::{Position, State};
+use crate::step::{step, write_front, Job, Stepped};
 use std::io::{self, BufRead, Read, Write};
 
 /// A lent buffer is shorter than this.
 pub const BUFFER_END: u64 = 8_000_000;
+/// Every byte of a step's room at the start: none that a line has.
+pub const ROOM_FILL: u8 = b'.';
+/// The greatest page number and the greatest count of findings of a step.
+pub const HIGHEST_COUNT: u64 = 1 << 32;
 /// A line is at most this long, its end not counted: memory stays bounded on
 /// any input.
 pub const LONGEST_LINE: usize = 33_554_432;
@@ -68,17 +73,18 @@ pub fn answer_case(line: &str) -> Option<String> {
     let fields: Vec<&str> = line.split(' ').collect();
     match fields.as_slice() {
         ["R", width, height, length, fill, state, place, allowance, stream] => {
-            let (width, height) = (decimal(width)?, decimal(height)?);
-            let case = RunCase {
-                width,
-                height,
-                buffer: filled(length, fill)?,
-                state: parse_state(state, width, height)?,
-                place: decimal(place)?,
-                allowance: decimal(allowance)?,
-                stream: parse_stream(stream)?,
-            };
-            Some(case.answer())
+            let handed = Handed::parse(width, height, length, fill, state, place, stream)?;
+            Some(answer_run(handed, decimal(allowance)?))
+        }
+        ["S", width, height, length, fill, state, place, number, findings, room, stream] => {
+            let handed = Handed::parse(width, height, length, fill, state, place, stream)?;
+            let room = bytes_of(room, ROOM_FILL)?;
+            Some(answer_step(
+                handed,
+                count_of(number)?,
+                count_of(findings)?,
+                room,
+            ))
         }
         ["T", width, height, room, fill, stream] => {
             let (width, height) = (decimal(width)?, decimal(height)?);
@@ -90,47 +96,35 @@ pub fn answer_case(line: &str) -> Option<String> {
     }
 }
 
-struct RunCase {
+/// What a run or a step is handed.
+struct Handed {
     width: u64,
     height: u64,
     buffer: Vec<u8>,
     state: State,
     place: u64,
-    allowance: u64,
     stream: Vec<u8>,
 }
 
-impl RunCase {
-    fn answer(mut self) -> String {
-        let result = run(
-            self.width,
-            self.height,
-            &mut Sheet::new(&mut self.buffer),
-            &self.stream,
-            &mut self.state,
-            &mut self.place,
-            self.allowance,
-        );
-        let state = write_state(&self.state);
-        let hash = fnv1a(&self.buffer);
-        let place = self.place;
-        match result {
-            Err(refusal) => {
-                let code = refusal.number();
-                format!("refused {code} 0 {place} {state} {hash:016x}")
-            }
-            Ok(ran) => {
-                let done = ran.done;
-                let (finding, found_at) = ran
-                    .found
-                    .map_or((0, 0), |found| (found.finding.number(), found.place));
-                let ended = u8::from(ran.page_ended);
-                let dots = self.dots();
-                format!(
-                    "ran {done} {place} {finding} {found_at} {ended} {state} {hash:016x} {dots}"
-                )
-            }
-        }
+impl Handed {
+    fn parse(
+        width: &str,
+        height: &str,
+        length: &str,
+        fill: &str,
+        state: &str,
+        place: &str,
+        stream: &str,
+    ) -> Option<Handed> {
+        let (width, height) = (decimal(width)?, decimal(height)?);
+        Some(Handed {
+            width,
+            height,
+            buffer: filled(length, fill)?,
+            state: parse_state(state, width, height)?,
+            place: decimal(place)?,
+            stream: parse_stream(stream)?,
+        })
     }
 
     /// Dots on the page's W/8 x H bytes, counted anew from the buffer.
@@ -139,6 +133,69 @@ impl RunCase {
             Measure::allowed(self.width, self.height).map_or(0, |measure| measure.page_bytes());
         count_dots(self.buffer.get(..page_bytes).unwrap_or(&[]))
     }
+}
+
+fn answer_run(mut handed: Handed, allowance: u64) -> String {
+    let result = run(
+        handed.width,
+        handed.height,
+        &mut Sheet::new(&mut handed.buffer),
+        &handed.stream,
+        &mut handed.state,
+        &mut handed.place,
+        allowance,
+    );
+    let state = write_state(&handed.state);
+    let hash = fnv1a(&handed.buffer);
+    let place = handed.place;
+    match result {
+        Err(refusal) => {
+            let code = refusal.number();
+            format!("refused {code} 0 {place} {state} {hash:016x}")
+        }
+        Ok(ran) => {
+            let done = ran.done;
+            let (finding, found_at) = ran
+                .found
+                .map_or((0, 0), |found| (found.finding.number(), found.place));
+            let ended = u8::from(ran.page_ended);
+            let dots = handed.dots();
+            format!("ran {done} {place} {finding} {found_at} {ended} {state} {hash:016x} {dots}")
+        }
+    }
+}
+
+fn answer_step(mut handed: Handed, number: u64, findings: u64, mut room: Vec<u8>) -> String {
+    let mut job = Job {
+        state: handed.state,
+        place: handed.place,
+        number,
+        findings,
+    };
+    let result = step(
+        handed.width,
+        handed.height,
+        &mut handed.buffer,
+        &handed.stream,
+        &mut job,
+    );
+    let (word, stepped) = match result {
+        Err(refusal) => (format!("refused {}", refusal.number()), Stepped::refused()),
+        Ok(stepped) => ("stepped".to_string(), stepped),
+    };
+    let end = write_front(&mut room, stepped.lines.as_bytes());
+    format!(
+        "{word} {} {} {:016x} {} {} {} {} {end} {} {:016x}",
+        job.place,
+        write_state(&job.state),
+        fnv1a(&handed.buffer),
+        job.number,
+        job.findings,
+        u8::from(stepped.has_page),
+        u8::from(stepped.over),
+        write_bytes(room.get(..end).unwrap_or(&[])),
+        fnv1a(&room)
+    )
 }
 
 fn answer_translation(width: u64, height: u64, room: &mut [u8], stream: &[u8]) -> String {
@@ -229,12 +286,20 @@ fn digit(byte: u8) -> Option<u8> {
 
 /// A lent buffer of this length, every byte of it `fill`.
 fn filled(length: &str, fill: &str) -> Option<Vec<u8>> {
+    bytes_of(length, one_byte(&hexadecimal(fill)?)?)
+}
+
+fn bytes_of(length: &str, fill: u8) -> Option<Vec<u8>> {
     let length = decimal(length)?;
-    let fill = one_byte(&hexadecimal(fill)?)?;
     if length >= BUFFER_END {
         return None;
     }
     Some(vec![fill; usize::try_from(length).ok()?])
+}
+
+/// A page number or a count of findings.
+fn count_of(text: &str) -> Option<u64> {
+    decimal(text).filter(|count| *count <= HIGHEST_COUNT)
 }
 
 /// `-`, hexadecimal pairs, or `xN:HEX`.

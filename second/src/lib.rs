@@ -18,3 +18,4 @@ pub mod report;
 pub mod rows;
 pub mod run;
 pub mod state;
+pub mod step;

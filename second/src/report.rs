@@ -2,8 +2,8 @@
 
 use crate::dots::Sheet;
 use crate::measure::Measure;
-use crate::run::{has_item, run, Ran, Refusal};
-use crate::state::State;
+use crate::run::{has_item, run, Found, Ran, Refusal};
+use crate::state::{Position, State};
 use std::io::{self, Write};
 
 /// The report program's own limit on its input.
@@ -27,6 +27,36 @@ impl From<Refusal> for Stopped {
         Stopped::Refused(refusal)
     }
 }
+
+// ---- lines
+
+pub(crate) fn fault_line(found: &Found) -> String {
+    format!("FAULT\t{}\t{}\n", found.place, found.finding.number())
+}
+
+pub(crate) fn mark_line(found: &Found) -> String {
+    format!("MARK\t{}\n", mark_fields(found))
+}
+
+/// A finding's place, its number, and the cursor as its item began.
+fn mark_fields(found: &Found) -> String {
+    let number = found.finding.number();
+    let Position { x, y } = found.cursor;
+    format!("{}\t{number}\t{x}\t{y}", found.place)
+}
+
+pub(crate) fn page_line(number: u64, dots: u64) -> String {
+    format!("PAGE\t{number}\t{dots}\n")
+}
+
+pub(crate) fn end_line(state: &State, findings: u64) -> String {
+    format!(
+        "END\t{}\t{}\t{}\t{findings}\n",
+        state.x, state.y, state.depth
+    )
+}
+
+// ---- streams
 
 /// A stream read from its start by runs, on a page buffer of its own.
 struct Reading<'a> {
@@ -72,7 +102,7 @@ impl<'a> Reading<'a> {
 
     fn write_page_line(&self, out: &mut dyn Write, number: u64) -> io::Result<()> {
         let dots = self.sheet.dots(&self.measure);
-        writeln!(out, "PAGE\t{number}\t{dots}")
+        out.write_all(page_line(number, dots).as_bytes())
     }
 
     /// "A used last page too": it was not handed over, so it is one more.
@@ -104,19 +134,14 @@ pub fn write_report(input: &[u8], out: &mut dyn Write) -> Result<(), Stopped> {
         let ran = reading.run(u64::MAX)?;
         if let Some(found) = ran.found {
             findings += 1;
-            writeln!(out, "FAULT\t{}\t{}", found.place, found.finding.number())?;
+            out.write_all(fault_line(&found).as_bytes())?;
         }
         if ran.page_ended {
             reading.write_page_line(out, reading.pages)?;
         }
     }
     reading.write_last_page_line(out)?;
-    let state = &reading.state;
-    writeln!(
-        out,
-        "END\t{}\t{}\t{}\t{findings}",
-        state.x, state.y, state.depth
-    )?;
+    out.write_all(end_line(&reading.state, findings).as_bytes())?;
     Ok(())
 }
 
@@ -195,12 +220,8 @@ pub fn write_marks(
     let mut page = page_buffer(&measure);
     let mut reading = Reading::start(measure, stream, &mut page);
     while reading.has_item() {
-        // One item a run, so that the cursor before each is known.
-        let (x, y) = (reading.state.x, reading.state.y);
-        let ran = reading.run(1)?;
-        if let Some(found) = ran.found {
-            let number = found.finding.number();
-            writeln!(out, "{}\t{number}\t{x}\t{y}", found.place)?;
+        if let Some(found) = reading.run(u64::MAX)?.found {
+            writeln!(out, "{}", mark_fields(&found))?;
         }
     }
     Ok(())

@@ -4,7 +4,7 @@ use crate::commands::{do_item, Effect, Finding};
 use crate::dots::Sheet;
 use crate::measure::{Measure, LONGEST_STREAM};
 use crate::reader::{read_item, Item};
-use crate::state::State;
+use crate::state::{Position, State};
 
 /// The paper's "calls refused as a whole", 10 to 15.
 #[derive(Clone, Copy, PartialEq, Eq, Debug)]
@@ -31,11 +31,13 @@ impl Refusal {
     }
 }
 
-/// A finding and where its item began.
+/// A finding, and where its item began: in the stream, and on the page.
 #[derive(Clone, Copy, PartialEq, Eq, Debug)]
 pub struct Found {
     pub finding: Finding,
     pub place: usize,
+    /// The cursor before the item did anything.
+    pub cursor: Position,
 }
 
 /// What a run gives besides state and place.
@@ -72,6 +74,10 @@ pub fn run(
             // first."
             sheet.zero(&measure);
         }
+        let cursor = Position {
+            x: state.x,
+            y: state.y,
+        };
         let effect = do_and_paint(&measure, sheet, stream, state, &item);
         at = item.end();
         ran.done += 1;
@@ -79,6 +85,7 @@ pub fn run(
         ran.found = effect.finding.map(|finding| Found {
             finding,
             place: item.place,
+            cursor,
         });
         if ran.found.is_some() || ran.page_ended {
             break;
