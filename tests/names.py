@@ -125,7 +125,7 @@ def everything():
         elif path.endswith((".rs", ".h")):
             names |= set(re.findall(r"\b(?:fn|struct|enum|const|mod) (\w+)", text(path)) + re.findall(r"\b(?:ROV|rov)_\w+", text(path)))
     names |= {name[4:] for name in names if name.startswith("ROV_")} | {"ROV_"}
-    printed = text("second/src/report.rs") + text("rovinuset") + "".join(text(path) for path in found("tools/*.py"))
+    printed = text("second/src/report.rs") + text("rovinuset") + "".join(text(path) for path in found("tools/*.py") + found("crates/*/src/main.rt"))
     return names | set(re.findall(r"\b[A-Z]{3,}\b", printed)) | set(KINDS) | TOPS
 
 
@@ -371,7 +371,8 @@ def wrong_theorems(rows):
         for label in bracketed(cells[-1]):
             looked["edit"] += 1
             edits.add(label)
-            if "tests/edits/%s.edit" % label not in FILES:
+            crate, slash, name = label.partition("/")
+            if not (edit(crate, name) if slash else "tests/edits/%s.edit" % label in FILES):
                 yield "no wrong rule %s" % label
     yield from ("no row for the theorem %s" % name for name in sorted(atlas.theorems() - named))
     rules = {os.path.basename(path)[:-5] for path in found("tests/edits/*.edit")}
