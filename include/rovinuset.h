@@ -74,6 +74,8 @@ size_t rov_dots(size_t W, size_t H, const uint8_t *page, size_t n);
 
 /* At most `allowance` items of the stream, from *place on, on the page. Gives 0, or the refusal (10 to 14; 13 also where state_n < ROV_STATE, or
  * the bytes of `started` or `used` are neither 0 nor 1).
+ * The refusal is the first that applies, in the order of the table. With the page unused and an item to do, the page is zeroed first: take a page that
+ * ended out of the buffer before the next call. Bytes of the page from W/8 x H on and of the state from ROV_STATE on are never written.
  * Not refused: page and state are as after the items, *place is behind them, *done is how many were done, *finding is the finding behind which it
  * stopped (0 if none), *found is the finding's place (0 if none), *ended is 1 if a page ended (it is in the buffer as it is to be handed
  * over), else 0.
@@ -81,8 +83,8 @@ size_t rov_dots(size_t W, size_t H, const uint8_t *page, size_t n);
 uint32_t rov_run(size_t W, size_t H, uint8_t *page, size_t page_n, const uint8_t *stream, size_t stream_n,
                  uint8_t *state, size_t state_n, size_t allowance, size_t *place, size_t *done, uint32_t *finding, size_t *found, size_t *ended);
 
-/* The plain stream of a stream, written to the room; no page and no state is needed. Run by rov_run, it has the same pages as the stream,
- * no finding, and the same end state but for the row method, which is 0.
+/* The plain stream of a stream, written to the room; no page and no state is needed. Run by rov_run on a page of the same W and H, from rov_afresh and
+ * place 0 on, it has the same pages as the stream run so, no finding, and the same end state but for the row method, which is 0.
  * Gives 0: the first *length bytes of the room are the plain stream, the rest of it is untouched. Or the refusal: 10, 12, or 15 (the
  * plain stream is longer than room_n, or than 1,048,576 bytes): the room is untouched, *length is 0. */
 uint32_t rov_translate(size_t W, size_t H, const uint8_t *stream, size_t stream_n, uint8_t *room, size_t room_n, size_t *length);
