@@ -1,4 +1,4 @@
-/* The proved leaves, one by one, for tests and measurements: the archive of the crate `leaf_door`. A slice is a pointer and a length. */
+/* The proved leaves, one by one, for tests and measurements: the archive of the crate `leaf_door`, and of `leaf_step` for rov_step. A slice is a pointer and a length. */
 #ifndef ROVINUSET_LEAVES_H
 #define ROVINUSET_LEAVES_H
 #include <stdbool.h>
@@ -24,5 +24,12 @@ size_t rov_count(const uint8_t *page, size_t n);
 
 /* The plain form of a value, written at a place of the room; the place behind it. */
 size_t rov_write_value(bool relative, bool negative, uint32_t size, uint8_t *room, size_t n, size_t at);
+
+/* One step of a job, from *place on: a run, and its lines at the front of the room. The state is 808 bytes, as include/rovinuset.h has them. 0, or the number of
+ * the refusal: then nothing is written, *place, *number and *findings stay, and *over is 1. *number is the number of the page being drawn and *findings the findings so far,
+ * each at most 2^32, as is the page's length; *end is where the lines end, *has_page whether the page is to be written, *over whether there is no further step. */
+uint32_t rov_step(size_t w, size_t h, uint8_t *page, size_t page_length, const uint8_t *stream, size_t stream_length,
+                  uint8_t *state, size_t state_length, size_t *place, size_t *number, size_t *findings,
+                  uint8_t *room, size_t room_length, size_t *end, size_t *has_page, size_t *over);
 
 #endif

@@ -13,6 +13,7 @@ ghost use Rattle.rules.specs.Measure.{allowed, measureOf, pageBytes, longestStr
 ghost use Rattle.rules.specs.States.{afresh};
 ghost use Rattle.pages_open.specs.Opening.{longestLines};
 use rules::State;
+use rules::Verdict;
 
 // A place for the longest job and one byte, in zeros. A function of its own hides the zeros, of which no proof can count so many.
 fn longest_input() -> [u8; 1048577] {
@@ -45,14 +46,22 @@ fn first_state(w: usize, h: usize) -> State
 }
 
 // A page behind its head, if there is one to be written; whether all of it was.
-fn write_page(drawn: bool, head: &[u8], page: &[u8]) -> bool {
-    if !drawn {
+fn write_page(paged: bool, head: &[u8], page: &[u8]) -> bool {
+    if !paged {
         return true;
     }
     if !io::write_all(STDOUT_FILENO, head) {
         return false;
     }
     io::write_all(STDOUT_FILENO, page)
+}
+
+// Where a step is refused. Nothing meets what is asked here, so the proof of the loop shows that it never comes to this: on a job that is allowed
+// every step is carried out.
+fn refused_step() -> bool
+    requires { ⌜ ⊥ ⌝ }
+{
+    false
 }
 
 // Step after step, until the job is over or a write fails; whether all was written.
@@ -80,7 +89,11 @@ fn write_steps(page: &mut [u8], w: usize, h: usize, s: &[u8], head: &[u8], room:
             &mut zeros,
             room,
         );
-        if !write_page(r.drawn, head, page) {
+        let verdict = r.verdict;
+        let Verdict::Carried = verdict else {
+            return refused_step();
+        };
+        if !write_page(r.paged, head, page) {
             return false;
         }
         let end = r.end;

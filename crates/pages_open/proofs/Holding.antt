@@ -4,10 +4,9 @@ use Prim.Native.Nat.{ℕ, _+_, _≤_, _<_}
 use native.Mathlib.Omega.{arith}
 use mathlib.Core.List.{List, [], _∷_}
 use mathlib.Core.Bool.{Bool, true, false, not}
-use lib.ListN.{length, take}
-use lib.Seq.{sets-eq, take-at}
+use lib.ListN.{length}
 use borrow.Author.Tests.{lt-ltb, le-ltb}
-use Rattle.common.specs.Stores.{Wrote}
+use Rattle.common.specs.Stores.{Wrote, Holds}
 use Rattle.common.proofs.Choices.{choice}
 use Rattle.common.proofs.Stores.{wrote-both}
 use Rattle.rules.specs.declared.Refusal.{Refusal}
@@ -19,16 +18,9 @@ use Rattle.rules.specs.Report.{fields, line, SIZE, refusedLine}
 use Rattle.number_write.proofs.Laws.{decimal-append, decimal-short}
 use Rattle.report_line.proofs.Texts.{line-append}
 use Rattle.report_laws.proofs.Bound.{number-length, two-length}
-use Rattle.pages_open.specs.Opening.{Holds, longestHead, longestLines, pbmHead, firstLines, Begins}
-
--- a text within the bound that was written is there whole, where there is room for the longest
-pub held : {most : ℕ} {text before after : List ℕ} {r : ℕ} → length text ≤ most → Wrote before 0 text after r → Holds most text before after r
-held {most} {text} {before} {after} {r} fit w = record { wrote = w; whole = whole }
-  where
-    whole : most ≤ length before → take r after ≡ text
-    whole h =
-        let e : r ≡ length text = w .next ∙ omega arith in
-        rw (e, w .held, sets-eq text before 0 (omega arith)) (take-at text _ (length text) refl)
+use Rattle.report_laws.proofs.Whole.{held, held-once}
+use Rattle.pages_open.specs.declared.Beginning.{Beginning}
+use Rattle.pages_open.specs.Opening.{longestHead, longestLines, pbmHead, firstLines, jobRefused, Begins, OneHead, OneOpening}
 
 -- ---- how long
 -- two numbers of at most twenty digits
@@ -83,8 +75,18 @@ module _ {room room1 : List ℕ} {a : ℕ} (W H : ℕ) (s : List ℕ) (size : Wr
       record { refused = rw (f, l); holds = behind-size (refusedLine StreamLength) (rw (f, l)) w }
 
   -- a job to be drawn
-  pub begins-drawn : not b ≡ false → length s ≤ longestStream → Begins W H s room (record { refused = false; end = a }) room1
-  begins-drawn e h =
+  pub begins-taken : not b ≡ false → length s ≤ longestStream → Begins W H s room (record { refused = false; end = a }) room1
+  begins-taken e h =
       let f = ap not (sym told) ∙ e in
       let l = le-ltb longestStream (length s) h in
       record { refused = rw (f, l); holds = held (first-most W H s) (rw (f, l) size) }
+
+-- ---- one outcome
+pub one-head : OneHead
+one-head W H room after after′ r r′ p q = held-once p q
+
+pub one-opening : OneOpening
+one-opening W H s room r r′ after after′ p q =
+    let e = p .refused ∙ sym (q .refused) in
+    let k = held-once (p .holds) (q .holds) in
+    (λ j. record { refused = e j; end = k .0 j }, k .1)

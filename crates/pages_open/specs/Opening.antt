@@ -1,22 +1,14 @@
 -- What stands before the pages of a job s on a page of W by H dots: the first lines of its report, and the head of a page.
 use mathlib.Core.Path.{_≡_}
-use Prim.Native.Nat.{ℕ, _≤_}
+use Prim.Native.Nat.{ℕ}
 use mathlib.Core.Bool.{Bool, cond, not, _||_}
 use mathlib.Core.List.{List, [], _∷_}
-use lib.ListN.{length, take}
-use Rattle.common.specs.Stores.{Wrote}
+use Rattle.common.specs.Stores.{Holds}
 use Rattle.rules.specs.declared.Refusal.the-variants.{PageMeasure, StreamLength}
 use Rattle.rules.specs.Measure.{allowed, isTooLong}
 use Rattle.rules.specs.Plain.{decimal}
 use Rattle.rules.specs.Report.{line, SIZE, refusedLine}
 use Rattle.pages_open.specs.declared.Beginning.{Beginning}
-
--- what is promised of a room in which a text was written from the start on, r the place behind it
-pub record Holds (most : ℕ) (text before after : List ℕ) (r : ℕ) : Type 0 where
-  -- it was written as far as there is room, and nothing else
-  pub wrote : Wrote before 0 text after r
-  -- in a room of the longest it is there whole
-  pub whole : most ≤ length before → take r after ≡ text
 
 -- the longest head: two numbers of twenty digits
 abbrev pub longestHead : ℕ
@@ -42,3 +34,12 @@ firstLines W H s = line SIZE (W ∷ H ∷ []) (cond (not (allowed W H)) (refused
 pub record Begins (W H : ℕ) (s room : List ℕ) (r : Beginning) (after : List ℕ) : Type 0 where
   pub refused : r .refused ≡ jobRefused W H s
   pub holds : Holds longestLines (firstLines W H s) room after (r .end)
+
+-- two outcomes that the promises allow for one input are equal: of the head of a page, and of the first lines
+abbrev pub OneHead : Type 0
+OneHead = (W H : ℕ) (room after after′ : List ℕ) (r r′ : ℕ)
+    → Holds longestHead (pbmHead W H) room after r → Holds longestHead (pbmHead W H) room after′ r′ → (r ≡ r′) × (after ≡ after′)
+
+abbrev pub OneOpening : Type 0
+OneOpening = (W H : ℕ) (s room : List ℕ) (r r′ : Beginning) (after after′ : List ℕ)
+    → Begins W H s room r after → Begins W H s room r′ after′ → (r ≡ r′) × (after ≡ after′)

@@ -1,20 +1,15 @@
 // What stands before the pages of a job: the first line of its report, with the refusal if there is one, and the head of each page as PBM has it.
 // Both are written into a room that is lent: what has no room is not written.
 ghost use mathlib.Core.Path.{_≡_};
-ghost use Rattle.pages_open.specs.Opening.{Holds, Begins, pbmHead, longestHead};
+ghost use Rattle.common.specs.Stores.{Holds};
+ghost use Rattle.pages_open.specs.Opening.{Begins, pbmHead, longestHead};
 use number_write::put_byte;
 use number_write::write_decimal;
 use report_fault::write_refused;
 use report_fault::write_size;
 use report_line::write_word;
-
-// "A stream is at most 1,048,576 bytes."
-const LIMIT: usize = 1048576;
-
-// The numbers of the refusals.
-const NO_PAGE: usize = 10;
-
-const TOO_LONG: usize = 12;
+use rules::LONGEST_STREAM;
+use rules::Refusal;
 
 // Whether a job is refused, and where its first lines end in the room.
 pub struct Beginning {
@@ -39,11 +34,11 @@ pub fn begin(w: usize, h: usize, s: &[u8], room: &mut [u8]) -> Beginning
 {
     let size = write_size(w, h, room, 0);
     if !state_page::allowed(w, h) {
-        let end = write_refused(NO_PAGE, room, size);
+        let end = write_refused(Refusal::PageMeasure, room, size);
         return Beginning { refused: true, end };
     }
-    if LIMIT < s.len() {
-        let end = write_refused(TOO_LONG, room, size);
+    if LONGEST_STREAM < s.len() {
+        let end = write_refused(Refusal::StreamLength, room, size);
         return Beginning { refused: true, end };
     }
     Beginning {

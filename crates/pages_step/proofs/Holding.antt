@@ -1,9 +1,9 @@
 -- What a step writes into its room, and that the room is always large enough. Assumes nothing.
-use mathlib.Core.Path.{_≡_}
+use mathlib.Core.Path.{_≡_, refl, sym, _∙_}
 use Prim.Native.Nat.{ℕ, _+_, _≤_}
 use native.Mathlib.Omega.{arith}
 use mathlib.Core.List.{List, [], _∷_}
-use mathlib.Core.Bool.{Bool, cond}
+use mathlib.Core.Bool.{Bool, true, false, cond}
 use lib.Dec.{eqb}
 use lib.ListN.{length}
 use borrow.Author.Tests.{eq-eqb, ne-eqb}
@@ -11,9 +11,10 @@ use Rattle.common.specs.Bits.{onesAll}
 use Rattle.common.specs.Stores.{Wrote}
 use Rattle.common.proofs.Choices.{choice}
 use Rattle.rules.specs.declared.Finding.{Finding}
+use Rattle.rules.specs.declared.Verdict.{Verdict}
 use Rattle.rules.specs.declared.State.{State}
 use Rattle.rules.specs.declared.Ran.{Ran}
-use Rattle.rules.specs.Findings.{findingNumber, isClean}
+use Rattle.rules.specs.Findings.{findingNumber, isClean, isRefused}
 use Rattle.rules.specs.Acts.{World, world}
 use Rattle.rules.specs.Report.{line, PAGE, END, lastLines, counted, told}
 use Rattle.theorems.specs.Statements.{RunPromise}
@@ -23,8 +24,9 @@ use Rattle.report_laws.proofs.Reporting.{wrote-told}
 use Rattle.pages_mark.specs.Marks.{MARK, marked}
 use Rattle.pages_mark.proofs.Marking.{marked-ahead}
 use Rattle.pages_open.specs.Opening.{longestLines}
-use Rattle.pages_open.proofs.Holding.{held, two-most}
-use Rattle.pages_step.specs.Steps.{isOver, isDrawn, stepLines, stepItems, Stepped}
+use Rattle.report_laws.proofs.Whole.{held}
+use Rattle.pages_open.proofs.Holding.{two-most}
+use Rattle.pages_step.specs.Steps.{isOver, hasPage, stepLines, stepItems, Stepped}
 
 -- ---- how long
 -- the line of a page in front of s
@@ -49,29 +51,49 @@ printed-most number o p =
 
 -- the lines of a step
 step-most : (number findings : ℕ) (o : Ran) (p : List ℕ) → length (stepLines number findings o p) ≤ longestLines
-step-most number findings o p = choice (λ l. length l ≤ longestLines) (isOver o) (last-most number (world (o .state .core) p []) findings) (printed-most number o p)
+step-most number findings o p = choice (λ (l : List ℕ). length l ≤ longestLines) (isRefused (o .verdict)) (omega arith)
+    (choice (λ l. length l ≤ longestLines) (isOver o) (last-most number (world (o .state .core) p []) findings) (printed-most number o p))
 
 -- ---- what is written
--- the lines of a run, and of the end
-step-run : {l l' : List ℕ} {r : ℕ} (number findings : ℕ) (o : Ran) (p : List ℕ) → (o .done ≡ 0 → ⊥) → Wrote l 0 (printed marked number o p []) l' r → Wrote l 0 (stepLines number findings o p) l' r
-step-run number findings o p z w = rw (ne-eqb (o .done) 0 z) w
+-- b: whether the run was refused
+module _ (o : Ran) (v : Verdict) (b : Bool) (copied : v ≡ o .verdict) (tells : b ≡ isRefused v) where
+  known : isRefused (o .verdict) ≡ b
+  known = rw (← copied) (sym tells)
 
-pub step-end : {l l' : List ℕ} {r : ℕ} (number findings : ℕ) (o : Ran) (p : List ℕ) → o .done ≡ 0
-    → Wrote l 0 (lastLines number (world (o .state .core) p []) findings) l' r → Wrote l 0 (stepLines number findings o p) l' r
-step-end number findings o p z w = rw (eq-eqb (o .done) 0 z) w
+  -- a refused run leaves no page
+  pub page-none : b ≡ true → false ≡ hasPage o
+  page-none e = rw (known, e)
 
--- the lines of a finding and its mark, and of a page
-pub step-told : {l l1 l2 : List ℕ} {a r : ℕ} (number findings : ℕ) (o : Ran) (p : List ℕ) (f : Finding) → (o .done ≡ 0 → ⊥) → f ≡ o .finding → Wrote l 0 (told marked (o .began) (o .found) f []) l1 a
-    → Wrote l1 a (cond (o .ended) (line PAGE (number ∷ onesAll p ∷ []) []) []) l2 r → Wrote l 0 (stepLines number findings o p) l2 r
-step-told number findings o p f z e v w = step-run number findings o p z (wrote-told marked marked-ahead number o p (rw e at v) w)
+  -- at the end it is the last, if it is used
+  pub page-last : b ≡ false → o .done ≡ 0 → o .state .core .used ≡ hasPage o
+  page-last e z = rw (known, e, eq-eqb (o .done) 0 z)
+
+  -- before, one that was ended
+  pub page-ended : b ≡ false → (o .done ≡ 0 → ⊥) → o .ended ≡ hasPage o
+  page-ended e z = rw (known, e, ne-eqb (o .done) 0 z)
+
+module _ (number findings : ℕ) (o : Ran) (p : List ℕ) (v : Verdict) (b : Bool) (copied : v ≡ o .verdict) (tells : b ≡ isRefused v) where
+  -- of a refused run nothing
+  pub step-none : {l : List ℕ} → b ≡ true → Wrote l 0 (stepLines number findings o p) l 0
+  step-none e = rw (known o v b copied tells, e) record { next = omega arith; held = refl }
+
+  -- the last lines
+  pub step-end : {l l' : List ℕ} {r : ℕ} → b ≡ false → o .done ≡ 0 → Wrote l 0 (lastLines number (world (o .state .core) p []) findings) l' r
+      → Wrote l 0 (stepLines number findings o p) l' r
+  step-end e z w = rw (known o v b copied tells, e, eq-eqb (o .done) 0 z) w
+
+  -- the lines of a finding and its mark, and of a page
+  pub step-told : {l l1 l2 : List ℕ} {a r : ℕ} (f : Finding) → b ≡ false → (o .done ≡ 0 → ⊥) → f ≡ o .finding → Wrote l 0 (told marked (o .began) (o .found) f []) l1 a
+      → Wrote l1 a (cond (o .ended) (line PAGE (number ∷ onesAll p ∷ []) []) []) l2 r → Wrote l 0 (stepLines number findings o p) l2 r
+  step-told f e z k u w = rw (known o v b copied tells, e, ne-eqb (o .done) 0 z) (wrote-told marked marked-ahead number o p (rw k at u) w)
 
 -- a step
-pub stepped : {W H : ℕ} {page s : List ℕ} {t : State} {place number findings : ℕ} {room page′ room′ : List ℕ} {o : Ran} {end i j : ℕ} {drawn : Bool}
-    → RunPromise W H page s t place stepItems o page′ → Wrote room 0 (stepLines number findings o page′) room′ end → drawn ≡ isDrawn o
+pub stepped : {W H : ℕ} {page s : List ℕ} {t : State} {place number findings : ℕ} {room page′ room′ : List ℕ} {o : Ran} {end i j : ℕ} {there : Bool} {v : Verdict}
+    → RunPromise W H page s t place stepItems o page′ → Wrote room 0 (stepLines number findings o page′) room′ end → there ≡ hasPage o → v ≡ o .verdict
     → i ≡ cond (o .ended) 1 0 → j ≡ counted (o .finding)
-    → Stepped W H page s t place number findings room (record { state = o .state; place = o .place; number = number + i; findings = findings + j; end = end; drawn = drawn; over = eqb (o .done) 0 }) page′ room′
-stepped {number = number} {findings} {room} {page′} {room′} {o} {end} p w d x y = record {
-  given = rw (← p .given, d, x, y);
+    → Stepped W H page s t place number findings room (record { verdict = v; state = o .state; place = o .place; number = number + i; findings = findings + j; end = end; paged = there; over = eqb (o .done) 0 }) page′ room′
+stepped {number = number} {findings} {room} {page′} {room′} {o} {end} p w d c x y = record {
+  given = rw (← p .given, d, c, x, y);
   lent = p .lent;
   holds = rw (← p .given, ← p .lent) (held (step-most number findings o page′) w);
 }

@@ -2,5 +2,6 @@
 pub mod Holding
 pub mod Sizes
 pub mod Pages
+pub mod Refusals
 pub mod Whole
 pub mod Stepping

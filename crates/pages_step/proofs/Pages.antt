@@ -16,9 +16,9 @@ use Rattle.theorems.proofs.Streams.{to-end}
 use Rattle.theorems.proofs.Pages.{Blank, showAll-append, showAll-blank}
 use Rattle.theorems.proofs.Runs.{leftBy, Follows, follows}
 use Rattle.theorems.proofs.Jobs.{then, actsOf-append, split, same-end}
-use Rattle.report_laws.specs.Left.{drawn}
+use Rattle.report_laws.specs.Left.{pageNow}
 use Rattle.report_laws.proofs.Items.{left-enough}
-use Rattle.report_laws.proofs.Printing.{drawn-is, drawn-blank, run-readied}
+use Rattle.report_laws.proofs.Printing.{page-now-is, page-now-blank, run-readied}
 use Rattle.pages_step.specs.Sheets.{pageSheets}
 use Rattle.pages_step.specs.Left.{pagesLeft}
 
@@ -92,17 +92,17 @@ module _ (g : Measure) where
     still-blank = subst (Blank g) (f .pages []) (showAll-blank g (actsOf (trace g (f .items) t s .items)) (world (t .core) p []) b)
 
     -- the page that is drawn behind the run
-    page-behind : cond (o .ran .ended) (blank g) (o .page) ≡ drawn g (o .ran .state) (o .page)
+    page-behind : cond (o .ran .ended) (blank g) (o .page) ≡ pageNow g (o .ran .state) (o .page)
     unfolding leftBy
     page-behind = go (o .ran .ended) refl still-blank
       where
         go : (e : Bool) → o .ran .ended ≡ e → Blank g (cond e (world (o .ran .state .core) (blank g) ([] ++ (o .page ∷ []))) (world (o .ran .state .core) (o .page) []))
-            → cond e (blank g) (o .page) ≡ drawn g (o .ran .state) (o .page)
+            → cond e (blank g) (o .page) ≡ pageNow g (o .ran .state) (o .page)
         go true e k = rw (f .unused e)
-        go false e k = drawn-is g (o .ran .state) (o .page) k
+        go false e k = page-now-is g (o .ran .state) (o .page) k
 
     -- the pages that were left are the one that the run ended, and those that are left behind it
-    follows-pages : pagesLeft g t s p ≡ cond (o .ran .ended) (o .page ∷ []) [] ++ pagesLeft g (o .ran .state) R (drawn g (o .ran .state) (o .page))
+    follows-pages : pagesLeft g t s p ≡ cond (o .ran .ended) (o .page ∷ []) [] ++ pagesLeft g (o .ran .state) R (pageNow g (o .ran .state) (o .page))
     unfolding pagesLeft leftBy
     follows-pages = ap pageSheets all-shown ∙ go (o .ran .ended) ∙ ap (λ q. cond (o .ran .ended) (o .page ∷ []) [] ++ pageSheets (showAll g (actsOf (rest .items)) (world (o .ran .state .core) q []))) page-behind
       where
@@ -113,6 +113,6 @@ module _ (g : Measure) where
 
   -- the same of a run with items to do, on a buffer that holds anything where the page is unused
   pub run-pages : (stream : List ℕ) (k : ℕ) (t : State) (at : ℕ) (buffer : List ℕ) (o : Outcome) → over t (drop at stream) ≡ false → run g (suc k) t at buffer stream ≡ o
-      → pagesLeft g t (drop at stream) (drawn g t buffer) ≡ cond (o .ran .ended) (o .page ∷ []) [] ++ pagesLeft g (o .ran .state) (drop (o .ran .place) stream) (drawn g (o .ran .state) (o .page))
-  run-pages stream k t at buffer o e q = follows-pages stream t (drawn g t buffer) (drop at stream) at o refl (drawn-blank g stream k t at buffer)
-      (subst (Follows g t (drawn g t buffer) (drop at stream) at 0) (sym (run-readied g stream k t at buffer e) ∙ q) (follows g (suc k) t (drawn g t buffer) (drop at stream) at 0))
+      → pagesLeft g t (drop at stream) (pageNow g t buffer) ≡ cond (o .ran .ended) (o .page ∷ []) [] ++ pagesLeft g (o .ran .state) (drop (o .ran .place) stream) (pageNow g (o .ran .state) (o .page))
+  run-pages stream k t at buffer o e q = follows-pages stream t (pageNow g t buffer) (drop at stream) at o refl (page-now-blank g stream k t at buffer)
+      (subst (Follows g t (pageNow g t buffer) (drop at stream) at 0) (sym (run-readied g stream k t at buffer e) ∙ q) (follows g (suc k) t (pageNow g t buffer) (drop at stream) at 0))

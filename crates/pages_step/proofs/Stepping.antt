@@ -3,13 +3,15 @@ use mathlib.Core.Path.{_≡_, refl, ap, sym, _∙_, subst}
 use Prim.Native.Nat.{ℕ, _*_, _/_, _≤_, _<_}
 use native.Mathlib.Omega.{arith}
 use mathlib.Core.List.{List}
-use mathlib.Core.Bool.{Bool, true, false, not, _||_, true≢false}
+use mathlib.Core.Bool.{true, false, true≢false}
 use lib.ListN.{length, take, drop}
 use lib.Seq.{length-take-le}
-use borrow.Author.Tests.{ltb-false}
 use Rattle.rules.specs.declared.Measure.{Measure}
 use Rattle.rules.specs.declared.State.{State}
-use Rattle.rules.specs.Measure.{Bounded, allowed, measureOf, pageBytes, longestStream, isTooLong}
+use Rattle.rules.specs.Measure.{Bounded, allowed, measureOf, pageBytes, longestStream}
+use Rattle.rules.specs.declared.Refusal.{Refusal}
+use Rattle.rules.specs.declared.Verdict.the-variants.{Refused}
+use Rattle.rules.specs.Findings.{isRefused}
 use Rattle.rules.specs.States.{afresh}
 use Rattle.theorems.proofs.Reading.{left}
 use Rattle.theorems.proofs.Measures.{allowed-gives}
@@ -18,7 +20,7 @@ use Rattle.pages_open.specs.declared.Beginning.{Beginning}
 use Rattle.pages_step.specs.declared.Sheet.{Sheet}
 use Rattle.pages_open.specs.Opening.{longestLines, Begins}
 use Rattle.pages_step.specs.Steps.{Stepped}
-use Rattle.pages_step.proofs.Whole.{some, again, less}
+use Rattle.pages_step.proofs.Whole.{taken, carried-out, some, again, less}
 
 -- a page that is allowed is within the largest
 pub allowed-fits : (W H : ℕ) (g : Measure) → allowed W H ≡ true → g ≡ measureOf W H → Bounded g
@@ -41,13 +43,8 @@ pub part-length : (n : ℕ) (l : List ℕ) → n ≤ length l → n ≡ length (
 part-length n l h = sym (length-take-le n l h)
 
 -- what a job that is not refused is known to be
-pub drawn-job : {W H : ℕ} {s room : List ℕ} {r : Beginning} {after : List ℕ} → Begins W H s room r after → r .refused ≡ false → (allowed W H ≡ true) × (length s ≤ longestStream)
-drawn-job {W} {H} {s} b f = go (allowed W H) (isTooLong s) refl (sym (b .refused) ∙ f)
-  where
-    go : (a l : Bool) → isTooLong s ≡ l → (not a || l) ≡ false → (a ≡ true) × (length s ≤ longestStream)
-    go true false x h = (refl, ltb-false longestStream (length s) x)
-    go true true x h = absurd (true≢false h)
-    go false l x h = absurd (true≢false h)
+pub taken-job : {W H : ℕ} {s room : List ℕ} {r : Beginning} {after : List ℕ} → Begins W H s room r after → r .refused ≡ false → (allowed W H ≡ true) × (length s ≤ longestStream)
+taken-job {W} {H} {s} b f = taken W H s (sym (b .refused) ∙ f)
 
 -- what holds before each step: all is as it should be, and the room has its length, which is enough for the lines of any step
 pub record Stepping (W H : ℕ) (s page before room : List ℕ) (t : State) (place number findings : ℕ) : Type 0 where
@@ -69,6 +66,11 @@ module _ {W H : ℕ} {s page before room : List ℕ} {t : State} {place number f
       let n = inv .going .pages in
       let f = inv .going .found in
       (omega arith, omega arith, omega arith)
+
+  -- no step is refused
+  pub stepping-carried : {r : Sheet} {page′ room′ : List ℕ} (why : Refusal) → Stepped W H page s t place number findings room r page′ room′ → r .verdict ≡ Refused why → ⊥
+  stepping-carried why step e =
+      true≢false (ap isRefused (sym e ∙ ap (λ (q : Sheet). q .verdict) (step .given)) ∙ carried-out W H allow s long (inv .going))
 
   module _ {r : Sheet} {page′ room′ : List ℕ} (step : Stepped W H page s t place number findings room r page′ room′) (more : r .over ≡ false) where
     -- less is left to read

@@ -36,8 +36,8 @@ jobPages W H s = cond (jobRefused W H s) [] (pbms W H (pageSheets (pages (measur
 -- each FAULT
 abbrev pub jobLines : ℕ → ℕ → List ℕ → List ℕ
 jobLines W H s =
-    let drawn = cond (isTooLong s) (refusedLine StreamLength) (streamLines marked (measureOf W H) s) in
-    line SIZE (W ∷ H ∷ []) (cond (not (allowed W H)) (refusedLine PageMeasure) drawn)
+    let lines = cond (isTooLong s) (refusedLine StreamLength) (streamLines marked (measureOf W H) s) in
+    line SIZE (W ∷ H ∷ []) (cond (not (allowed W H)) (refusedLine PageMeasure) lines)
 
 -- ---- a reader of PBM finds each page where the one before ends: all have H rows of W/8 bytes
 -- the lengths of pages

@@ -16,9 +16,9 @@ use Rattle.rules.specs.declared.Verdict.{Verdict}
 use Rattle.rules.specs.declared.Verdict.the-variants.{Carried, Refused}
 use Rattle.rules.specs.declared.Translated.{Translated}
 use Rattle.rules.specs.Measure.{allowed, measureOf, longestStream}
-use Rattle.rules.specs.Findings.{refusalNumber, isRefused}
-use Rattle.rules.specs.Plain.{plain, Translation, translation, refusedRoom, tooLong, translate}
-use Rattle.rules.specs.Report.{line, REFUSED, refusedLine}
+use Rattle.rules.specs.Findings.{isRefused}
+use Rattle.rules.specs.Plain.{plain, Translation, translation, refusedRoom, noRoom, translate}
+use Rattle.rules.specs.Report.{refusedLine}
 use Rattle.theorems.specs.Statements.{TranslatePromise}
 use Rattle.plain_say.specs.declared.Saying.{Saying}
 use Rattle.plain_say.specs.Said.{saidBy, verdictOf, said, SaysRefused, Says}
@@ -27,8 +27,8 @@ abbrev sayingOf : Bool → ℕ → Saying
 sayingOf t n = record { refused = t; end = n }
 
 -- a refusal
-pub refused-said : (why : Refusal) (room after : List ℕ) (n end : ℕ) → n ≡ refusalNumber why → Wrote room 0 (line REFUSED (n ∷ []) []) after end → SaysRefused why room (sayingOf true end) after
-refused-said why room after n end e w = record { refused = refl; end = rw (e, zero-add) at (w .next); held = rw e at (w .held) }
+pub refused-said : (why : Refusal) (room after : List ℕ) (end : ℕ) → Wrote room 0 (refusedLine why) after end → SaysRefused why room (sayingOf true end) after
+refused-said why room after end w = record { refused = refl; end = rw zero-add at (w .next); held = w .held }
 
 -- a translation by its verdict: the plain stream in the room, or the room as it was
 abbrev Stands : List ℕ → List ℕ → Verdict → Translation → Type 0
@@ -39,7 +39,7 @@ module _ (W H : ℕ) (s room : List ℕ) where
   abbrev text : List ℕ
   text = plain (measureOf W H) s
 
-  fits-there : tooLong text room ≡ false → Stands text room Carried (translation Carried (length text) (text ++ drop (length text) room))
+  fits-there : noRoom text room ≡ false → Stands text room Carried (translation Carried (length text) (text ++ drop (length text) room))
   fits-there e =
       let l : length text ≤ length room = ltb-false (length room) (length text) (or-left (ltb (length room) (length text)) (ltb longestStream (length text)) e) in
       (l, refl, sym (rw zero-add at (sets-eq text room 0 (rw zero-add l))))
@@ -50,9 +50,9 @@ module _ (W H : ℕ) (s room : List ℕ) where
 
   stands : Stands text room (verdictOf W H s room) (translate W H s room)
   unfolding translate
-  stands = go (not (allowed W H)) (ltb longestStream (length s)) (tooLong text room) refl
+  stands = go (not (allowed W H)) (ltb longestStream (length s)) (noRoom text room) refl
     where
-      go : (a b t : Bool) → tooLong text room ≡ t
+      go : (a b t : Bool) → noRoom text room ≡ t
           → let o = cond a (refusedRoom PageMeasure room) (cond b (refusedRoom StreamLength room) (cond t (refusedRoom Room room) (translation Carried (length text) (text ++ drop (length text) room)))) in Stands text room (o .given .verdict) o
       go true b t e = refl
       go false true t e = refl

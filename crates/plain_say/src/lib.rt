@@ -1,6 +1,5 @@
 // What the program `plain` says of a stream: its plain stream, or one line with the number of the refusal.
 ghost use Rattle.plain_say.specs.Said.{Says, SaysRefused};
-use number_finding::refusal_number;
 use plain_translate::translate;
 use report_fault::write_refused;
 use rules::Refusal;
@@ -16,8 +15,7 @@ pub struct Saying {
 fn say_refused(why: Refusal, room: &mut [u8]) -> Saying
     ensures { λ r. ⌜ SaysRefused why (now (room .entry)) r (now (room .exit)) ⌝ }
 {
-    let number = refusal_number(why);
-    let end = write_refused(number as usize, room, 0);
+    let end = write_refused(why, room, 0);
     Saying { refused: true, end }
 }
 

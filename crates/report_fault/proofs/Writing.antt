@@ -1,4 +1,4 @@
--- The line of a finding. Assumes nothing.
+-- The line of a finding, and of a refusal. Assumes nothing.
 use mathlib.Core.Path.{_≡_, refl, sym, _∙_}
 use mathlib.Core.Bool.{true, false}
 use mathlib.Core.List.{List, [], _∷_}
@@ -8,8 +8,10 @@ use lib.ListN.{length}
 use Rattle.common.specs.Stores.{Wrote}
 use Rattle.rules.specs.declared.Finding.{Finding}
 use Rattle.rules.specs.declared.Finding.the-variants.{Nothing, EndsInside, CannotStand, NotCarried, NotAllowed, StackLimit, NotNow, DamagedRow}
-use Rattle.rules.specs.Findings.{findingNumber, isClean}
-use Rattle.rules.specs.Report.{line, FAULT, fault}
+use Rattle.rules.specs.declared.Refusal.{Refusal}
+use Rattle.rules.specs.Findings.{findingNumber, isClean, refusalNumber}
+use Rattle.rules.specs.Report.{fields, line, FAULT, REFUSED, fault, refusedLine}
+use Rattle.common.proofs.Stores.{wrote-both}
 use Rattle.report_line.proofs.Pieces.{wrote-nothing}
 
 -- the number 0 is that of no finding
@@ -42,3 +44,7 @@ wrote-clean place f n e z h = rw (number-clean f (sym e ∙ z)) (wrote-nothing h
 pub wrote-fault : {l l' : List ℕ} {at r : ℕ} (place : ℕ) (f : Finding) (n : ℕ) → n ≡ findingNumber f → (n ≡ 0 → ⊥) → Wrote l at (line FAULT (place ∷ n ∷ []) []) l' r
     → Wrote l at (fault place f []) l' r
 wrote-fault place f n e z w = rw (number-found f (λ k. z (e ∙ k)), ← e) w
+
+-- a refusal: its word, and its number
+pub wrote-refused : {l l1 l' : List ℕ} {at a r : ℕ} (why : Refusal) (n : ℕ) → n ≡ refusalNumber why → Wrote l at REFUSED l1 a → Wrote l1 a (fields (n ∷ []) []) l' r → Wrote l at (refusedLine why) l' r
+wrote-refused why n e v w = rw (← e) (wrote-both v w)

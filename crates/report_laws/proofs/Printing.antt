@@ -26,7 +26,7 @@ use Rattle.theorems.proofs.Streams.{step-left}
 use Rattle.theorems.proofs.Suffixes.{step-rest, step-took}
 use Rattle.theorems.proofs.Pages.{Blank, showAll-blank, step-single, item-unused}
 use Rattle.theorems.proofs.Runs.{does-one}
-use Rattle.report_laws.specs.Left.{drawn, linesLeft, printed}
+use Rattle.report_laws.specs.Left.{pageNow, linesLeft, printed}
 use Rattle.report_laws.proofs.Items.{core-next, core-is, left-step, turned}
 
 -- what is said of a finding has the place of its item, and where that began
@@ -39,14 +39,14 @@ told-place say began at f s = go (isClean f)
 
 module _ (g : Measure) where
   -- a page that is blank where it is not used is the page that is being drawn
-  pub drawn-is : (t : State) (p : List ℕ) → Blank g (world (t .core) p []) → p ≡ drawn g t p
-  drawn-is t p h = choice-by (λ q. p ≡ q) (t .core .used) (λ e. refl) h
+  pub page-now-is : (t : State) (p : List ℕ) → Blank g (world (t .core) p []) → p ≡ pageNow g t p
+  page-now-is t p h = choice-by (λ q. p ≡ q) (t .core .used) (λ e. refl) h
 
   module _ (say : Saying) (stream : List ℕ) where
     -- the lines that are left where an outcome leaves off
     abbrev pub behind : ℕ → ℕ → Outcome → List ℕ
     behind number n o =
-        linesLeft say g (o .ran .state) (drop (o .ran .place) stream) (o .ran .place) (number + cond (o .ran .ended) 1 0) (drawn g (o .ran .state) (o .page))
+        linesLeft say g (o .ran .state) (drop (o .ran .place) stream) (o .ran .place) (number + cond (o .ran .ended) 1 0) (pageNow g (o .ran .state) (o .page))
         (n + counted (o .ran .finding))
 
     -- what an outcome prints of the lines that were left, and how much less is left to read
@@ -58,7 +58,7 @@ module _ (g : Measure) where
     module _ (t : State) (s : List ℕ) (at done number : ℕ) (p : List ℕ) (n : ℕ) (here : s ≡ drop at stream) (low : at ≤ length stream) (b : Blank g (world (t .core) p [])) where
       halted-prints : Prints t s at done number p n (halted t at done p)
       halted-prints = record {
-        lines = rw (add-zero number, add-zero n, ← here, ← drawn-is t p b);
+        lines = rw (add-zero number, add-zero n, ← here, ← page-now-is t p b);
         less = rw (← here) (omega arith);
         inside = low;
       }
@@ -86,8 +86,8 @@ module _ (g : Measure) where
         still-blank u = showAll-blank g (S .done .acts) (world (t .core) p []) b (ap (λ c. c .used) (core-is g t s e p) ∙ u)
 
         -- the page behind the item, where one was ended and where none was
-        page-behind : (ds : List (List ℕ)) → W .handed ≡ ds → cond (isNil ds) (W .page) (blank g) ≡ drawn g (S .state) (pageOf ds (W .page))
-        page-behind [] q = drawn-is (S .state) (W .page) still-blank
+        page-behind : (ds : List (List ℕ)) → W .handed ≡ ds → cond (isNil ds) (W .page) (blank g) ≡ pageNow g (S .state) (pageOf ds (W .page))
+        page-behind [] q = page-now-is (S .state) (W .page) still-blank
         page-behind (d ∷ ds) q = rw unused
           where
             unused : S .state .core .used ≡ false
@@ -95,7 +95,7 @@ module _ (g : Measure) where
 
         -- the lines behind the item
         abbrev rest : List (List ℕ) → List ℕ
-        rest ds = linesLeft say g (S .state) (drop at′ stream) at′ (number + cond (not (isNil ds)) 1 0) (drawn g (S .state) (pageOf ds (W .page))) (n + counted (S .done .finding))
+        rest ds = linesLeft say g (S .state) (drop at′ stream) at′ (number + cond (not (isNil ds)) 1 0) (pageNow g (S .state) (pageOf ds (W .page))) (n + counted (S .done .finding))
 
         -- the lines are the item's finding, the page that it ended, and those behind it
         paged : (ds : List (List ℕ)) → W .handed ≡ ds
@@ -144,7 +144,7 @@ module _ (g : Measure) where
   module _ (stream : List ℕ) where
     module _ (k : ℕ) (t : State) (at : ℕ) (buffer : List ℕ) where
       -- a run with items to do begins with the page that is being drawn, whatever the buffer holds
-      pub run-readied : over t (drop at stream) ≡ false → run g (suc k) t at buffer stream ≡ runFrom g (suc k) 0 at t (drawn g t buffer) (drop at stream)
+      pub run-readied : over t (drop at stream) ≡ false → run g (suc k) t at buffer stream ≡ runFrom g (suc k) 0 at t (pageNow g t buffer) (drop at stream)
       unfolding run
       run-readied e = rw (e, eqb·suc-zero k, ready (t .core .used))
         where
@@ -153,13 +153,13 @@ module _ (g : Measure) where
           ready false = refl
 
       -- which is blank where it is unused
-      pub drawn-blank : Blank g (world (t .core) (drawn g t buffer) [])
-      drawn-blank u = rw u
+      pub page-now-blank : Blank g (world (t .core) (pageNow g t buffer) [])
+      page-now-blank u = rw u
 
       -- it prints what is its to print
       pub run-prints : (say : Saying) (number n : ℕ) → at ≤ length stream → over t (drop at stream) ≡ false
-          → Prints say stream t (drop at stream) at 0 number (drawn g t buffer) n (run g (suc k) t at buffer stream)
-      run-prints say number n low e = rw (run-readied e) (prints say stream (suc k) t (drop at stream) at 0 number (drawn g t buffer) n refl low drawn-blank)
+          → Prints say stream t (drop at stream) at 0 number (pageNow g t buffer) n (run g (suc k) t at buffer stream)
+      run-prints say number n low e = rw (run-readied e) (prints say stream (suc k) t (drop at stream) at 0 number (pageNow g t buffer) n refl low page-now-blank)
 
       -- a run with nothing to do leaves all as it is
       pub run-over : over t (drop at stream) ≡ true → run g (suc k) t at buffer stream ≡ halted t at 0 buffer

@@ -29,7 +29,7 @@ use Rattle.theorems.proofs.Lengths.{fresh-shaped}
 use Rattle.theorems.proofs.Runs.{run-shaped}
 use Rattle.theorems.proofs.Theorems.{afresh-is-sound}
 use Rattle.report_line.proofs.Texts.{line-append, cond-append}
-use Rattle.report_laws.specs.Left.{drawn, linesLeft, printed}
+use Rattle.report_laws.specs.Left.{pageNow, linesLeft, printed}
 use Rattle.report_laws.proofs.Items.{left-whole, left-over}
 use Rattle.report_laws.proofs.Printing.{behind, Prints, run-prints, run-over, run-nothing}
 use Rattle.report_laws.proofs.Calls.{carried, run-kept}
@@ -95,7 +95,7 @@ pub record Going (W H : ℕ) (s page : List ℕ) (t : State) (place number findi
 pub record Reporting (W H : ℕ) (s before : List ℕ) (at : ℕ) (page room : List ℕ) (t : State) (place number findings next : ℕ) : Type 0 where
   pub going : Going W H s page t place number findings
   pub kept : length room ≡ length before
-  pub ends : (after : List ℕ) (r : ℕ) → Wrote room next (linesLeft faultAlone (measureOf W H) t (drop place s) place number (drawn (measureOf W H) t page) findings) after r
+  pub ends : (after : List ℕ) (r : ℕ) → Wrote room next (linesLeft faultAlone (measureOf W H) t (drop place s) place number (pageNow (measureOf W H) t page) findings) after r
       → Wrote before at (streamLines faultAlone (measureOf W H) s) after r
 
 module _ (W H : ℕ) (allow : allowed W H ≡ true) where
@@ -147,8 +147,8 @@ module _ (W H : ℕ) (allow : allowed W H ≡ true) where
         go false e = refl
 
     -- it printed what is its to print
-    does : (say : Saying) → (o .done ≡ 0 → ⊥) → Prints (measureOf W H) say s t (drop place s) place 0 number (drawn (measureOf W H) t page) findings O
-    does say z = subst (Prints (measureOf W H) say s t (drop place s) place 0 number (drawn (measureOf W H) t page) findings) call-ran
+    does : (say : Saying) → (o .done ≡ 0 → ⊥) → Prints (measureOf W H) say s t (drop place s) place 0 number (pageNow (measureOf W H) t page) findings O
+    does say z = subst (Prints (measureOf W H) say s t (drop place s) place 0 number (pageNow (measureOf W H) t page) findings) call-ran
         (run-prints (measureOf W H) s k t place page say number findings (inv .placed) (call-more z))
 
     -- less is left to read
@@ -178,7 +178,7 @@ module _ (W H : ℕ) (allow : allowed W H ≡ true) where
 
     -- the lines that were left are those of the run, and those that are left behind it
     pub lines-again : (say : Saying) → Ahead say → (o .done ≡ 0 → ⊥)
-        → linesLeft say (measureOf W H) t (drop place s) place number (drawn (measureOf W H) t page) findings ≡ printed say number o page′ [] ++ behind (measureOf W H) say s number findings O
+        → linesLeft say (measureOf W H) t (drop place s) place number (pageNow (measureOf W H) t page) findings ≡ printed say number o page′ [] ++ behind (measureOf W H) say s number findings O
     lines-again say ahead z = does say z .lines ∙ printed-append say ahead number o page′ (behind (measureOf W H) say s number findings O)
 
     -- a run that did nothing found the stream at its end
@@ -191,11 +191,11 @@ module _ (W H : ℕ) (allow : allowed W H ≡ true) where
 
     -- the lines that were left are the last ones
     pub lines-end : (say : Saying) → o .done ≡ 0
-        → lastLines number (world (o .state .core) page′ []) findings ≡ linesLeft say (measureOf W H) t (drop place s) place number (drawn (measureOf W H) t page) findings
+        → lastLines number (world (o .state .core) page′ []) findings ≡ linesLeft say (measureOf W H) t (drop place s) place number (pageNow (measureOf W H) t page) findings
     lines-end say z =
         ap (λ (q : Outcome). lastLines number (world (q .ran .state .core) (q .page) []) findings) (call-same z)
         ∙ seen (t .core .used) page _
-        ∙ sym (left-over say (measureOf W H) t (drop place s) place number (drawn (measureOf W H) t page) findings (call-over z))
+        ∙ sym (left-over say (measureOf W H) t (drop place s) place number (pageNow (measureOf W H) t page) findings (call-over z))
       where
         seen : (u : Bool) (a b : List ℕ) → cond u (line PAGE (number ∷ onesAll a ∷ []) b) b ≡ cond u (line PAGE (number ∷ onesAll (cond u a (blank (measureOf W H))) ∷ []) b) b
         seen true a b = refl

@@ -2,8 +2,8 @@
 use mathlib.Core.Path.{_≡_}
 use Prim.Native.Nat.{ℕ, _+_, _*_, _≤_}
 use mathlib.Core.List.{List}
-use lib.ListN.{length, take}
-use Rattle.common.specs.Stores.{Wrote}
+use lib.ListN.{length}
+use Rattle.common.specs.Stores.{Holds}
 use Rattle.rules.specs.Report.{reportLimit, report}
 
 -- There are at most two items to a byte. A FAULT line has at most 14 bytes: place and number have five digits and one. A PAGE line has
@@ -17,8 +17,9 @@ abbrev pub ReportsFit : Type 0
 ReportsFit = (s : List ℕ) → length (report s) ≤ longestReport
 
 -- what is promised of a room in which the report of s was written, r the place behind it
-pub record Reported (s before after : List ℕ) (r : ℕ) : Type 0 where
-  -- it was written from the start on as far as there is room, and nothing else
-  pub wrote : Wrote before 0 (report s) after r
-  -- in a room of the longest report it is there whole
-  pub whole : longestReport ≤ length before → take r after ≡ report s
+abbrev pub Reported : List ℕ → List ℕ → List ℕ → ℕ → Type 0
+Reported s before after r = Holds longestReport (report s) before after r
+
+-- two outcomes that it allows for one input are equal
+abbrev pub OneReport : Type 0
+OneReport = (s before after after′ : List ℕ) (r r′ : ℕ) → Reported s before after r → Reported s before after′ r′ → (r ≡ r′) × (after ≡ after′)

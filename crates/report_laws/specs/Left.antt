@@ -12,8 +12,8 @@ use Rattle.rules.specs.Run.{trace, enough}
 use Rattle.rules.specs.Report.{line, PAGE, Saying, told, faults, itemLines}
 
 -- the page that is being drawn: an unused one is blank, whatever the buffer holds
-abbrev pub drawn : Measure → State → List ℕ → List ℕ
-drawn g t buffer = cond (t .core .used) buffer (blank g)
+abbrev pub pageNow : Measure → State → List ℕ → List ℕ
+pageNow g t buffer = cond (t .core .used) buffer (blank g)
 
 -- the lines of s, what is left of the stream from the place `at` on: `number` is the number of the page p, which is being drawn,
 -- and n findings were before

@@ -8,6 +8,8 @@ ghost use Rattle.common.specs.Stores.{Wrote};
 ghost use Rattle.dot_page.specs.Zeros.{FirstZero};
 ghost use Rattle.report_laws.specs.Left.{printed};
 ghost use Rattle.rules.specs.Report.{counted, faultAlone};
+use common::flag;
+use number_finding::is_clean;
 use rules::Finding;
 use rules::Ran;
 
@@ -15,16 +17,7 @@ use rules::Ran;
 pub fn count_of(f: Finding) -> usize
     ensures { λ r. ⌜ (r ≡ counted f) × (r ≤ 1) ⌝ }
 {
-    match f {
-        Finding::Nothing => 0,
-        Finding::EndsInside => 1,
-        Finding::CannotStand => 1,
-        Finding::NotCarried => 1,
-        Finding::NotAllowed => 1,
-        Finding::StackLimit => 1,
-        Finding::NotNow => 1,
-        Finding::DamagedRow => 1,
-    }
+    flag(!is_clean(f))
 }
 
 // What a run found: the line of its finding, and the line of the page that it ended, whose first `zeros` bytes are known to be zero.

@@ -8,9 +8,10 @@ ghost use Rattle.common.specs.Stores.{Wrote};
 ghost use Rattle.rules.specs.States.{afresh};
 ghost use Rattle.rules.specs.Report.{reportPage, faultAlone, streamLines};
 ghost use Rattle.report_laws.specs.Bound.{Reported};
-use report_run::count_of;
 use common::flag;
+use report_run::count_of;
 use report_run::write_ran;
+use rules::Refusal;
 use rules::State;
 
 // "Reads up to 65,536 bytes of standard input, page 640 × 800."
@@ -19,9 +20,6 @@ const WIDTH: usize = 640;
 const HEIGHT: usize = 800;
 
 const LIMIT: usize = 65536;
-
-// The number of a stream that is too long.
-const TOO_LONG: usize = 12;
 
 // Items a run is allowed: more than such a stream has. Any number above 0 prints the same.
 const ALLOWANCE: usize = 131073;
@@ -68,7 +66,7 @@ pub fn write_report(s: &[u8], room: &mut [u8]) -> usize
 {
     let behind = report_fault::write_size(WIDTH, HEIGHT, room, 0);
     if LIMIT < s.len() {
-        return report_fault::write_refused(TOO_LONG, room, behind);
+        return report_fault::write_refused(Refusal::StreamLength, room, behind);
     }
     let mut page = [0u8; 64000];
     write_stream(s, &mut page, room, behind)

@@ -3,7 +3,7 @@ use lib.ListN.{length-take}
 use borrow.Author.Needs.{needs}
 use Rattle.pages.proofs.write_job.Statement.{statement}
 use Rattle.pages.proofs.write_job.Tie as tie
-use Rattle.pages_step.proofs.Stepping.{drawn-job}
+use Rattle.pages_step.proofs.Stepping.{taken-job}
 
 slice-aggregate-begin : tie.Need-slice-aggregate-begin
 slice-aggregate-begin c = search needs
@@ -43,7 +43,7 @@ slice-aggregate-write-pages-2 c = search needs
 
 write-pages-requires : tie.Need-write-pages-requires
 write-pages-requires c κs =
-    let job = drawn-job (c .before .before .before .before .before .before .before .before .before .before .begin .ensures) (c .before .before .before .before .before .if2 .left) in
+    let job = taken-job (c .before .before .before .before .before .before .before .before .before .before .begin .ensures) (c .before .before .before .before .before .if2 .left) in
     (job .0, (job .1, search needs))
 
 returns-3 : tie.Need-returns-3

@@ -1,4 +1,4 @@
--- `pages::write_steps` is safe and ends. The invariant: the next step may follow; the measure: what is left to read.
+-- `pages::write_steps` is safe and ends, and meets no refused step. The invariant: the next step may follow; the measure: what is left to read.
 -- The facts are named by their places, since a search does not reach through so many. Assumes nothing.
 use borrow.Author.Needs.{needs}
 use Rattle.pages.proofs.write_steps.Statement.{statement}
@@ -8,7 +8,7 @@ use native.Mathlib.Omega.{arith}
 use Rattle.theorems.proofs.Reading.{left}
 use Rattle.dot_page.specs.Zeros.{FirstZero}
 use Rattle.run.proofs.Ready.{none-known}
-use Rattle.pages_step.proofs.Stepping.{Stepping, stepping-start, stepping-small, stepping-less, stepping-again}
+use Rattle.pages_step.proofs.Stepping.{Stepping, stepping-start, stepping-small, stepping-carried, stepping-less, stepping-again}
 
 abbrev Inv-loop : tie.InvT-loop
 Inv-loop page₀ w h s head room₀ state₀ place₀ number₀ findings₀ zeros₀ page room state place number findings zeros =
@@ -29,8 +29,16 @@ next-requires c κs =
     let small = stepping-small (c .before .before .before .loop .inv .0) (c .before .before .before .before .before .before .before .before .before .pre .0) (c .before .before .before .before .before .before .before .before .before .pre .1 .1 .0) in
     (small .0, small .1, small .2, c .before .before .before .loop .inv .1)
 
-write-page-requires : tie.Need-write-page-requires Inv-loop μ-loop
-write-page-requires c κs = search needs
+enum-told : tie.Need-enum-told Inv-loop μ-loop
+enum-told c = search needs
+
+enum-told-2 : tie.Need-enum-told-2 Inv-loop μ-loop
+enum-told-2 c = search needs
+
+refused-step-requires : tie.Need-refused-step-requires Inv-loop μ-loop
+refused-step-requires c κs =
+    let made = c .before .before .before .before .before .before in
+    stepping-carried (made .before .before .before .before .loop .inv .0) (made .before .before .before .before .before .before .before .before .before .before .pre .0) (made .before .before .before .before .before .before .before .before .before .before .pre .1 .1 .0) _ (made .next .ensures .0) (c .enum-told2 .given .1)
 
 same-length : tie.Need-same-length Inv-loop μ-loop
 same-length c =
@@ -45,6 +53,22 @@ same-length-2 c =
 returns : tie.Need-returns Inv-loop μ-loop
 returns c = search needs
 
+write-page-requires : tie.Need-write-page-requires Inv-loop μ-loop
+write-page-requires c κs = search needs
+
+same-length-3 : tie.Need-same-length-3 Inv-loop μ-loop
+same-length-3 c =
+    let made = c .before .before .before .before .before .before .before .before .before in
+    omega (arith, made .before .before .before .before .before .before .before .before .before .before .pre .1 .0, made .next .kept .0, made .before .before .before .before .loop .inv .0 .going .sized)
+
+same-length-4 : tie.Need-same-length-4 Inv-loop μ-loop
+same-length-4 c =
+    let made = c .before .before .before .before .before .before .before .before .before in
+    omega (arith, made .next .kept .1 .1 .1 .1 .1 .1 .1 .1 .1 .0, made .before .before .before .before .loop .inv .0 .kept)
+
+returns-2 : tie.Need-returns-2 Inv-loop μ-loop
+returns-2 c = search needs
+
 slice-reshare-prefix-write-all : tie.Need-slice-reshare-prefix-write-all Inv-loop μ-loop
 slice-reshare-prefix-write-all c = search needs
 
@@ -54,40 +78,40 @@ slice-aggregate-write-all c = simp length-take (search needs)
 write-all-requires : tie.Need-write-all-requires Inv-loop μ-loop
 write-all-requires c κs = search needs
 
-same-length-3 : tie.Need-same-length-3 Inv-loop μ-loop
-same-length-3 c =
-    let made = c .before .before .before .before .before .before .before .before .before .before in
-    omega (arith, made .before .before .before .before .before .before .before .before .before .before .pre .1 .0, made .next .kept .0, made .before .before .before .before .loop .inv .0 .going .sized)
-
-same-length-4 : tie.Need-same-length-4 Inv-loop μ-loop
-same-length-4 c =
-    let made = c .before .before .before .before .before .before .before .before .before .before in
-    omega (arith, made .next .kept .1 .1 .1 .1 .1 .1 .1 .1 .1 .0, made .before .before .before .before .loop .inv .0 .kept)
-
-returns-2 : tie.Need-returns-2 Inv-loop μ-loop
-returns-2 c = search needs
-
 same-length-5 : tie.Need-same-length-5 Inv-loop μ-loop
 same-length-5 c =
-    let made = c .before .before .before .before .before .before .before .before .before .before .before in
+    let made = c .before .before .before .before .before .before .before .before .before .before .before .before in
     omega (arith, made .before .before .before .before .before .before .before .before .before .before .pre .1 .0, made .next .kept .0, made .before .before .before .before .loop .inv .0 .going .sized)
 
 same-length-6 : tie.Need-same-length-6 Inv-loop μ-loop
 same-length-6 c =
-    let made = c .before .before .before .before .before .before .before .before .before .before .before in
+    let made = c .before .before .before .before .before .before .before .before .before .before .before .before in
     omega (arith, made .next .kept .1 .1 .1 .1 .1 .1 .1 .1 .1 .0, made .before .before .before .before .loop .inv .0 .kept)
 
 returns-3 : tie.Need-returns-3 Inv-loop μ-loop
 returns-3 c = search needs
 
+same-length-7 : tie.Need-same-length-7 Inv-loop μ-loop
+same-length-7 c =
+    let made = c .before .before .before .before .before .before .before .before .before .before .before .before .before in
+    omega (arith, made .before .before .before .before .before .before .before .before .before .before .pre .1 .0, made .next .kept .0, made .before .before .before .before .loop .inv .0 .going .sized)
+
+same-length-8 : tie.Need-same-length-8 Inv-loop μ-loop
+same-length-8 c =
+    let made = c .before .before .before .before .before .before .before .before .before .before .before .before .before in
+    omega (arith, made .next .kept .1 .1 .1 .1 .1 .1 .1 .1 .1 .0, made .before .before .before .before .loop .inv .0 .kept)
+
+returns-4 : tie.Need-returns-4 Inv-loop μ-loop
+returns-4 c = search needs
+
 loop-less : tie.Need-loop-less Inv-loop μ-loop
 loop-less c =
-    let made = c .before .before .before .before .before .before .before .before .before .before .before .before in
+    let made = c .before .before .before .before .before .before .before .before .before .before .before .before .before .before in
     stepping-less (made .before .before .before .before .loop .inv .0) (made .before .before .before .before .before .before .before .before .before .before .pre .0) (made .before .before .before .before .before .before .before .before .before .before .pre .1 .1 .0) (made .next .ensures .0) (c .before .if3 .left)
 
 loop-again : tie.Need-loop-again Inv-loop μ-loop
 loop-again c =
-    let made = c .before .before .before .before .before .before .before .before .before .before .before .before in
+    let made = c .before .before .before .before .before .before .before .before .before .before .before .before .before .before in
     (stepping-again (made .before .before .before .before .loop .inv .0) (made .before .before .before .before .before .before .before .before .before .before .pre .0) (made .before .before .before .before .before .before .before .before .before .before .pre .1 .1 .0) (made .next .ensures .0) (c .before .if3 .left) (made .next .kept .1 .1 .1 .1 .1 .1 .1 .1 .1 .0), made .next .ensures .1)
 
 pub write-steps-spec : {M : Type 1} → statement M
@@ -99,18 +123,24 @@ write-steps-spec =
     first-state-requires
     loop-holds
     next-requires
-    write-page-requires
+    enum-told
+    enum-told-2
+    refused-step-requires
     same-length
     same-length-2
     returns
-    slice-reshare-prefix-write-all
-    slice-aggregate-write-all
-    write-all-requires
+    write-page-requires
     same-length-3
     same-length-4
     returns-2
+    slice-reshare-prefix-write-all
+    slice-aggregate-write-all
+    write-all-requires
     same-length-5
     same-length-6
     returns-3
+    same-length-7
+    same-length-8
+    returns-4
     loop-less
     loop-again)

@@ -2,7 +2,7 @@
 use borrow.Author.Needs.{needs}
 use Rattle.pages_open.proofs.begin.Statement.{statement}
 use Rattle.pages_open.proofs.begin.Tie as tie
-use Rattle.pages_open.proofs.Holding.{begins-no-page, begins-too-long, begins-drawn}
+use Rattle.pages_open.proofs.Holding.{begins-no-page, begins-too-long, begins-taken}
 
 write-size-requires : tie.Need-write-size-requires
 write-size-requires c κs = search needs
@@ -32,7 +32,7 @@ same-length-3 : tie.Need-same-length-3
 same-length-3 c = search needs
 
 returns-3 : tie.Need-returns-3
-returns-3 c = search (begins-drawn, needs)
+returns-3 c = search (begins-taken, needs)
 
 pub begin-spec : {M : Type 1} → statement M
 begin-spec =

@@ -10,8 +10,8 @@ run-requires c κs = search needs
 write-lines-requires : tie.Need-write-lines-requires
 write-lines-requires c κs = search needs
 
-is-drawn-requires : tie.Need-is-drawn-requires
-is-drawn-requires c κs = search needs
+leaves-page-requires : tie.Need-leaves-page-requires
+leaves-page-requires c κs = search needs
 
 flag-requires : tie.Need-flag-requires
 flag-requires c κs = search needs
@@ -40,7 +40,7 @@ next-spec =
     (tie.spec
     run-requires
     write-lines-requires
-    is-drawn-requires
+    leaves-page-requires
     flag-requires
     add-next-number
     count-of-requires
