@@ -8,9 +8,6 @@ use lib.ListN.{length}
 use lib.Seq.{sets}
 use Rattle.common.specs.Choice.{flagged}
 use Rattle.rules.specs.declared.Refusal.the-variants.{PageMeasure, UnsoundState}
-use Rattle.rules.specs.declared.Verdict.{Verdict}
-use Rattle.rules.specs.declared.Verdict.the-variants.{Carried, Refused}
-use Rattle.rules.specs.declared.State.{State}
 use Rattle.rules.specs.declared.Ran.{Ran}
 use Rattle.rules.specs.Measure.{allowed, measureOf}
 use Rattle.rules.specs.Findings.{findingNumber, refusalNumber, verdictNumber}
@@ -18,7 +15,7 @@ use Rattle.rules.specs.States.{afresh}
 use Rattle.rules.specs.Run.{answer}
 use Rattle.rules.specs.Plain.{translate}
 use Rattle.theorems.specs.Statements.{Demand3}
-use Rattle.state_load.specs.Kept.{stateTakes, stateAt, stateBytes}
+use Rattle.state_load.specs.Kept.{stateTakes, stateAt, stateBytes, bytesBehind}
 
 -- the refusal of a state afresh, 0 for none: 10, and 13 where there is no room for a state
 abbrev pub afreshNumber : ℕ → ℕ → List ℕ → ℕ
@@ -33,11 +30,7 @@ pub record MadeAfresh (W H : ℕ) (before : List ℕ) (r : ℕ) (after : List �
   pub number : r ≡ afreshNumber W H before
   pub bytes : after ≡ afreshBytes W H before
 
--- the state's bytes behind a call: a refusal writes nothing
-abbrev pub bytesBehind : Verdict → State → List ℕ → List ℕ
-bytesBehind Carried t b = sets b 0 (stateBytes t)
-bytesBehind (Refused why) t b = b
-
+-- the state's bytes behind a run
 abbrev pub keptAfter : Ran → List ℕ → List ℕ
 keptAfter r b = bytesBehind (r .verdict) (r .state) b
 

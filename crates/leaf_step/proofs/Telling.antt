@@ -11,11 +11,11 @@ use Rattle.rules.specs.declared.State.{State}
 use Rattle.rules.specs.declared.Ran.{Ran}
 use Rattle.rules.specs.Findings.{refusalNumber, verdictNumber}
 use Rattle.rules.specs.Run.{answer}
-use Rattle.state_load.specs.Kept.{stateAt, stateBytes}
+use Rattle.state_load.specs.Kept.{stateAt, stateBytes, bytesBehind}
 use Rattle.report_laws.proofs.Whole.{held-once}
 use Rattle.pages_step.specs.declared.Sheet.{Sheet}
 use Rattle.pages_step.specs.Steps.{stepItems, sheetOf, Stepped}
-use Rattle.leaf_step.specs.Told.{bytesBehind, Kept, ToldStep, OneToldStep}
+use Rattle.leaf_step.specs.Told.{Kept, ToldStep, OneToldStep}
 
 module _ (r : Sheet) (b : List ℕ) where
   -- a step that was carried out

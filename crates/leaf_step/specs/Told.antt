@@ -1,24 +1,16 @@
 -- What a step behind the boundary to C tells: the rules' outcome, as numbers and bytes.
 use mathlib.Core.Path.{_≡_}
-use mathlib.Core.Bool.{cond}
 use mathlib.Core.List.{List}
 use Prim.Native.Nat.{ℕ, _+_}
-use lib.Seq.{sets}
 use Rattle.common.specs.Choice.{flagged}
 use Rattle.common.specs.Stores.{Holds}
-use Rattle.rules.specs.declared.Verdict.{Verdict}
-use Rattle.rules.specs.declared.State.{State}
-use Rattle.rules.specs.Findings.{verdictNumber, isRefused}
+use Rattle.rules.specs.Findings.{verdictNumber}
 use Rattle.rules.specs.Run.{Outcome, answer}
 use Rattle.rules.specs.Report.{counted}
-use Rattle.state_load.specs.Kept.{stateAt, stateBytes}
+use Rattle.state_load.specs.Kept.{stateAt, bytesBehind}
 use Rattle.pages_open.specs.Opening.{longestLines}
 use Rattle.pages_step.specs.declared.Sheet.{Sheet}
 use Rattle.pages_step.specs.Steps.{stepItems, isOver, hasPage, stepLines}
-
--- the state's bytes behind a call: a refusal writes nothing
-abbrev pub bytesBehind : Verdict → State → List ℕ → List ℕ
-bytesBehind v t b = cond (isRefused v) b (sets b 0 (stateBytes t))
 
 -- of a step that gave r: the number, and the state's bytes
 pub record Kept (r : Sheet) (b : List ℕ) (n : ℕ) (after : List ℕ) : Type 0 where

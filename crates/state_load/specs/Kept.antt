@@ -4,6 +4,7 @@ use mathlib.Core.Bool.{Bool, cond, not, _&&_}
 use mathlib.Core.List.{List, [], _∷_, _++_}
 use lib.Dec.{eqb, leb}
 use lib.ListN.{length, getD}
+use lib.Seq.{sets}
 use Rattle.common.specs.Choice.{flagged}
 use Rattle.rules.specs.declared.Spot.{Spot}
 use Rattle.rules.specs.declared.Layout.{Layout}
@@ -12,6 +13,8 @@ use Rattle.rules.specs.declared.Sequence.{Sequence}
 use Rattle.rules.specs.declared.Sequence.the-variants.{Closed, Open}
 use Rattle.rules.specs.declared.Core.{Core}
 use Rattle.rules.specs.declared.State.{State}
+use Rattle.rules.specs.declared.Verdict.{Verdict}
+use Rattle.rules.specs.declared.Verdict.the-variants.{Carried, Refused}
 use Rattle.rules.specs.Measure.{spot}
 use Rattle.rules.specs.States.{besideOf, stateOf}
 
@@ -108,3 +111,8 @@ frontBytes t =
 
 unfoldable pub stateBytes : State → List ℕ
 stateBytes t = frontBytes t ++ (stackBytes (t .core .stack) ++ t .core .seed)
+
+-- the bytes behind a call that was lent them: a refusal writes nothing
+abbrev pub bytesBehind : Verdict → State → List ℕ → List ℕ
+bytesBehind Carried t b = sets b 0 (stateBytes t)
+bytesBehind (Refused why) t b = b
