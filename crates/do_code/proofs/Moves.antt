@@ -16,11 +16,11 @@ use Rattle.rules.specs.declared.Code.the-variants.{CarriageReturn, LineFeed, Fo
 use Rattle.rules.specs.declared.Layout.{Layout}
 use Rattle.rules.specs.declared.Core.{Core}
 use Rattle.rules.specs.Measure.{LW, intoWidth, intoHeight, spot}
-use Rattle.rules.specs.States.{atX, atY, withLeft, withRight, withAt, withUsed, firstLineAt}
+use Rattle.rules.specs.States.{atX, atY, withLeft, withRight, withAt, withLayout, withUsed, firstLineAt, freshCore}
 use Rattle.rules.specs.Codes.{carriageReturn, lineFeed, firstLine, feedsOnReturn, returnsOnFeed, coded}
 use Rattle.rules.specs.Acts.{endsPage, control}
 use Rattle.do_text.specs.Cursor.{forwardSpot}
-use Rattle.do_code.specs.Moved.{Moved}
+use Rattle.do_code.specs.Moved.{Moved, OneMove}
 
 -- the greater of equal numbers
 pub most-of : (m a b n : ℕ) → m ≡ a → n ≡ max m b → n ≡ max a b
@@ -123,3 +123,7 @@ stop-at-fits x left hmi h l k = record { fits = omega (arith, stop-small (x - le
 -- whether the code that a `match` has told ends the page
 pub code-ends-told : (k j : Code) (c : Core) (r : Bool) → k ≡ j → r ≡ endsPage (control j) c → r ≡ endsPage (control k) c
 code-ends-told k j c r e h = rw e h
+
+-- the core afresh, with the cursor and the layout given, tells the cursor
+pub one-move : OneMove
+one-move g k p l r r′ h h′ = let c = withAt p (withLayout l (freshCore g)) in ap (λ (d : Core). d .at) (h c refl refl ∙ sym (h′ c refl refl))

@@ -13,3 +13,7 @@ use Rattle.rules.specs.Acts.{endsPage, control}
 -- r is where the code k leaves a cursor that is at p, with the layout l; a code that ends the page makes the next one unused
 abbrev pub Moved : Measure → Code → Spot → Layout → Spot → Type 0
 Moved g k p l r = (c : Core) → p ≡ c .at → l ≡ c .layout → withUsed (cond (endsPage (control k) c) false (c .used)) (withAt r c) ≡ coded g k c
+
+-- two cursors that it allows for one input are equal
+abbrev pub OneMove : Type 0
+OneMove = (g : Measure) (k : Code) (p : Spot) (l : Layout) (r r′ : Spot) → Moved g k p l r → Moved g k p l r′ → r ≡ r′

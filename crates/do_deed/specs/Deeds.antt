@@ -60,3 +60,9 @@ pub record DeedOn (g : Measure) (o : Core → Meaning) (p : Pen) (seed page : Li
 -- the same, whatever the page, which stays as it is
 abbrev pub DeedFor : Measure → (Core → Meaning) → Pen → List ℕ → Deed → List ℕ → Type 0
 DeedFor g o p seed r seed′ = (page : List ℕ) → DeedOn g o p seed page r seed′ page
+
+-- One deed: two that the promise allows for one item are equal, with the seed row and the page behind them. A promise whatever the page is one for each
+-- page, so that this holds of it too.
+abbrev pub OneDeed : Type 0
+OneDeed = (g : Measure) (o : Core → Meaning) (p : Pen) (seed page : List ℕ) (r r′ : Deed) (seed′ seed″ page′ page″ : List ℕ)
+    → DeedOn g o p seed page r seed′ page′ → DeedOn g o p seed page r′ seed″ page″ → (r ≡ r′) × (seed′ ≡ seed″) × (page′ ≡ page″)

@@ -11,11 +11,11 @@ use Rattle.rules.specs.declared.Spot.{Spot}
 use Rattle.rules.specs.declared.Layout.{Layout}
 use Rattle.rules.specs.declared.Core.{Core}
 use Rattle.rules.specs.Measure.{LW, intoWidth, spot}
-use Rattle.rules.specs.States.{withAt, withUsed}
+use Rattle.rules.specs.States.{withAt, withLayout, withUsed, freshCore}
 use Rattle.rules.specs.Codes.{typed, typedAll}
 use Rattle.state_pen.specs.declared.Pen.{Pen}
 use Rattle.state_pen.specs.Pens.{coreOf}
-use Rattle.do_text.specs.Cursor.{forwardSpot, typedSpot, typedPen, TypedAll}
+use Rattle.do_text.specs.Cursor.{forwardSpot, typedSpot, typedPen, TypedAll, OneTypedAll}
 
 -- a move forward, step by step: where it stops, how far it goes, and where that is in the page
 pub forward-spot : (g : Measure) (n : ℕ) (p : Spot) (l : Layout) (stop m x : ℕ) → stop ≡ cond (leb (p .x) (l .right)) (l .right) (LW g) → m ≡ min n stop → x ≡ intoWidth g m → spot x (p .y) ≡ forwardSpot g n p l
@@ -50,3 +50,10 @@ module _ (g : Measure) (s : List ℕ) (from : Spot) (l : Layout) (was : Bool) wh
     pub typing-ends : length s ≤ i → TypedAll g s from l was (record { at = p; used = u })
     unfolding typedAll
     typing-ends h = λ c x y z. sym (inv c x y z ∙ ap (λ (k : List ℕ). typedAll g k (withUsed u (withAt p c))) (drop-of-length-le s h))
+
+-- the core afresh, with the cursor, the layout and the flag given, tells both
+pub one-typed-all : OneTypedAll
+one-typed-all g s p l u r r′ h h′ =
+    let c = withUsed u (withAt p (withLayout l (freshCore g))) in
+    let e = h c refl refl refl ∙ sym (h′ c refl refl refl) in
+    λ i. record { at = e i .at; used = e i .used }

@@ -29,3 +29,7 @@ typedPen g p b = record { at = typedSpot g (p .at) (p .layout); layout = p .layo
 -- r is where the text s leaves a cursor that is at p, with the layout l, and whether a page that is used or not is then used
 abbrev pub TypedAll : Measure → List ℕ → Spot → Layout → Bool → Typed → Type 0
 TypedAll g s p l u r = (c : Core) → p ≡ c .at → l ≡ c .layout → u ≡ c .used → withUsed (r .used) (withAt (r .at) c) ≡ typedAll g s c
+
+-- two answers that it allows for one input are equal
+abbrev pub OneTypedAll : Type 0
+OneTypedAll = (g : Measure) (s : List ℕ) (p : Spot) (l : Layout) (u : Bool) (r r′ : Typed) → TypedAll g s p l u r → TypedAll g s p l u r′ → r ≡ r′

@@ -9,14 +9,14 @@ use native.Mathlib.Nat.{mul-assoc, mul-add-div-right, div-lt-iff-lt-mul}
 use lib.Bits.{bitOr, or-add-and, and-le-l, and-le-r}
 use lib.Dec.{T, eqb, eqb→eq}
 use lib.ListN.{length, getD, set, length-set, List·getD-eq-default}
-use lib.Seq.{getD-set-same, getD-set-other}
+use lib.Seq.{getD-set-same, getD-set-other, ext-getD}
 use borrow.Author.Count.{below-more}
 use borrow.Author.Tests.{eqb-true, not-false}
 use Rattle.common.specs.Bits.{bit, dot, byteOf}
 use Rattle.common.proofs.Bits.{dot-at, dot-lt, byteOf-cong, bit-byteOf}
 use Rattle.common.proofs.Choices.{le-or-lt}
 use Rattle.common.proofs.Tests.{all-below, below}
-use Rattle.dot_ink.specs.Ink.{Blank, Used, spreadOf, squareAt, Squared}
+use Rattle.dot_ink.specs.Ink.{Blank, Used, spreadOf, squareAt, Squared, OneSquared}
 
 -- ---- the row's last nonzero byte
 
@@ -84,70 +84,78 @@ pub square-dot : (row : List ℕ) (dots m i : ℕ) → i < 8 → bit (squareAt r
 unfolding squareAt
 square-dot row dots m i h = bit-byteOf (λ i. dot row ((8 * m + i) / dots)) (λ i. dot-lt row ((8 * m + i) / dots)) i h
 
--- the first m bytes of squares are made
-pub record Making (row : List ℕ) (dots size m : ℕ) (list : List ℕ) : Type 0 where
-  pub same : length list ≡ size
+-- the first m bytes of squares are made, and the others are as they were
+pub record Making (row : List ℕ) (dots : ℕ) (before : List ℕ) (m : ℕ) (list : List ℕ) : Type 0 where
+  pub same : length list ≡ length before
   pub done : (j : ℕ) → j < m → getD list j 0 ≡ squareAt row dots j
+  pub rest : (j : ℕ) → m ≤ j → getD list j 0 ≡ getD before j 0
 
 -- at first none
-pub making-starts : (row : List ℕ) (dots m : ℕ) (list : List ℕ) → m ≡ 0 → Making row dots (length list) m list
-making-starts row dots m list e = record { same = refl; done = λ j l. absurd (omega arith) }
+pub making-starts : (row : List ℕ) (dots m : ℕ) (list : List ℕ) → m ≡ 0 → Making row dots list m list
+making-starts row dots m list e = record { same = refl; done = λ j l. absurd (omega arith); rest = λ j l. refl }
 
 -- one more
-making-more : (row : List ℕ) (dots size m : ℕ) (list : List ℕ) (byte phase k v : ℕ) → Making row dots size m list → m < size
-    → m ≡ byte * dots + phase → phase < dots → k ≡ m + 1 → v ≡ spreadOf dots (getD row byte 0) phase → Making row dots size k (set list m v)
-making-more row dots size m list byte phase k v d h e p q g =
+making-more : (row : List ℕ) (dots : ℕ) (before : List ℕ) (m : ℕ) (list : List ℕ) (byte phase k v : ℕ) → Making row dots before m list → m < length before
+    → m ≡ byte * dots + phase → phase < dots → k ≡ m + 1 → v ≡ spreadOf dots (getD row byte 0) phase → Making row dots before k (set list m v)
+making-more row dots before m list byte phase k v d h e p q g =
     rw q
     (record {
       same = length-set list m _ ∙ d .same;
       done =
           below-more _ _ (λ j l. rw (getD-set-other list m j _ 0 (λ q. omega arith)) (d .done j l))
           (rw (getD-set-same list m _ 0 (omega (arith, d .same))) (g ∙ square-spread row dots byte phase p ∙ ap (squareAt row dots) (sym e)));
+      rest = λ j l. rw (getD-set-other list m j _ 0 (λ q. omega arith)) (d .rest j (omega arith));
     })
 
 -- the two of a byte
-pub made-two : (row : List ℕ) (size i x y : ℕ) (list : List ℕ) → Making row 2 size (2 * i) list → 2 * i + 1 < size → getD row i 0 < 256
-    → x ≡ spreadOf 2 (getD row i 0 / 16) 1 → y ≡ spreadOf 2 (getD row i 0 % 16) 1 → Making row 2 size (2 * (i + 1)) (set (set list (2 * i) x) (2 * i + 1) y)
-made-two row size i x y list d h s f g =
-    making-more row 2 size (2 * i + 1) _ i 1 _ y
-    (making-more row 2 size (2 * i) list i 0 (2 * i + 1) x d (omega arith) (omega arith) (omega arith) refl (f ∙ same-by (λ b. spreadOf 2 (b / 16) 1) (λ b. spreadOf 2 b 0) (unfold spreadOf in unfold byteOf in unfold bit in tt) _ s))
+pub made-two : (row before : List ℕ) (i x y : ℕ) (list : List ℕ) → Making row 2 before (2 * i) list → 2 * i + 1 < length before → getD row i 0 < 256
+    → x ≡ spreadOf 2 (getD row i 0 / 16) 1 → y ≡ spreadOf 2 (getD row i 0 % 16) 1 → Making row 2 before (2 * (i + 1)) (set (set list (2 * i) x) (2 * i + 1) y)
+made-two row before i x y list d h s f g =
+    making-more row 2 before (2 * i + 1) _ i 1 _ y
+    (making-more row 2 before (2 * i) list i 0 (2 * i + 1) x d (omega arith) (omega arith) (omega arith) refl (f ∙ same-by (λ b. spreadOf 2 (b / 16) 1) (λ b. spreadOf 2 b 0) (unfold spreadOf in unfold byteOf in unfold bit in tt) _ s))
     h (omega arith) (omega arith) (omega arith) (g ∙ same-by (λ b. spreadOf 2 (b % 16) 1) (λ b. spreadOf 2 b 1) (unfold spreadOf in unfold byteOf in unfold bit in tt) _ s)
 
 -- the three of a byte
-pub made-three : (row : List ℕ) (size i x y z : ℕ) (list : List ℕ) → Making row 3 size (3 * i) list → 3 * i + 2 < size
+pub made-three : (row before : List ℕ) (i x y z : ℕ) (list : List ℕ) → Making row 3 before (3 * i) list → 3 * i + 2 < length before
     → x ≡ spreadOf 3 (getD row i 0) 0 → y ≡ spreadOf 3 (getD row i 0) 1 → z ≡ spreadOf 3 (getD row i 0) 2
-    → Making row 3 size (3 * (i + 1)) (set (set (set list (3 * i) x) (3 * i + 1) y) (3 * i + 2) z)
-made-three row size i x y z list d h f g k =
-    making-more row 3 size (3 * i + 2) _ i 2 _ z
-    (making-more row 3 size (3 * i + 1) _ i 1 (3 * i + 2) y
-    (making-more row 3 size (3 * i) list i 0 (3 * i + 1) x d (omega arith) (omega arith) (omega arith) refl f)
+    → Making row 3 before (3 * (i + 1)) (set (set (set list (3 * i) x) (3 * i + 1) y) (3 * i + 2) z)
+made-three row before i x y z list d h f g k =
+    making-more row 3 before (3 * i + 2) _ i 2 _ z
+    (making-more row 3 before (3 * i + 1) _ i 1 (3 * i + 2) y
+    (making-more row 3 before (3 * i) list i 0 (3 * i + 1) x d (omega arith) (omega arith) (omega arith) refl f)
     (omega arith) (omega arith) (omega arith) (omega arith) g)
     h (omega arith) (omega arith) (omega arith) k
 
 -- the four of a byte
-pub made-four : (row : List ℕ) (size i x y z w : ℕ) (list : List ℕ) → Making row 4 size (4 * i) list → 4 * i + 3 < size → getD row i 0 < 256
+pub made-four : (row before : List ℕ) (i x y z w : ℕ) (list : List ℕ) → Making row 4 before (4 * i) list → 4 * i + 3 < length before → getD row i 0 < 256
     → x ≡ spreadOf 4 (getD row i 0 / 64) 3 → y ≡ spreadOf 4 (getD row i 0 / 16 % 4) 3 → z ≡ spreadOf 4 (getD row i 0 / 4 % 4) 3 → w ≡ spreadOf 4 (getD row i 0 % 4) 3
-    → Making row 4 size (4 * (i + 1)) (set (set (set (set list (4 * i) x) (4 * i + 1) y) (4 * i + 2) z) (4 * i + 3) w)
-made-four row size i x y z w list d h s f g k o =
-    making-more row 4 size (4 * i + 3) _ i 3 _ w
-    (making-more row 4 size (4 * i + 2) _ i 2 (4 * i + 3) z
-    (making-more row 4 size (4 * i + 1) _ i 1 (4 * i + 2) y
-    (making-more row 4 size (4 * i) list i 0 (4 * i + 1) x d (omega arith) (omega arith) (omega arith) refl (f ∙ same-by (λ b. spreadOf 4 (b / 64) 3) (λ b. spreadOf 4 b 0) (unfold spreadOf in unfold byteOf in unfold bit in tt) _ s))
+    → Making row 4 before (4 * (i + 1)) (set (set (set (set list (4 * i) x) (4 * i + 1) y) (4 * i + 2) z) (4 * i + 3) w)
+made-four row before i x y z w list d h s f g k o =
+    making-more row 4 before (4 * i + 3) _ i 3 _ w
+    (making-more row 4 before (4 * i + 2) _ i 2 (4 * i + 3) z
+    (making-more row 4 before (4 * i + 1) _ i 1 (4 * i + 2) y
+    (making-more row 4 before (4 * i) list i 0 (4 * i + 1) x d (omega arith) (omega arith) (omega arith) refl (f ∙ same-by (λ b. spreadOf 4 (b / 64) 3) (λ b. spreadOf 4 b 0) (unfold spreadOf in unfold byteOf in unfold bit in tt) _ s))
     (omega arith) (omega arith) (omega arith) (omega arith) (g ∙ same-by (λ b. spreadOf 4 (b / 16 % 4) 3) (λ b. spreadOf 4 b 1) (unfold spreadOf in unfold byteOf in unfold bit in tt) _ s))
     (omega arith) (omega arith) (omega arith) (omega arith) (k ∙ same-by (λ b. spreadOf 4 (b / 4 % 4) 3) (λ b. spreadOf 4 b 2) (unfold spreadOf in unfold byteOf in unfold bit in tt) _ s))
     h (omega arith) (omega arith) (omega arith) (o ∙ same-by (λ b. spreadOf 4 (b % 4) 3) (λ b. spreadOf 4 b 3) (unfold spreadOf in unfold byteOf in unfold bit in tt) _ s)
 
 -- all are made
-pub making-ends : (row : List ℕ) (dots n size i : ℕ) (list : List ℕ) → Making row dots size (dots * i) list → n ≡ i → Squared row dots n size list
-making-ends row dots n size i list v e = rw e (record { same = v .same; is = v .done })
+pub making-ends : (row : List ℕ) (dots n i : ℕ) (before list : List ℕ) → Making row dots before (dots * i) list → n ≡ i → Squared row dots n before list
+making-ends row dots n i before list v e = rw e (record { same = v .same; is = v .done; rest = v .rest })
 
 -- so many dots to a bit, as a test told
-pub squared-told : (row : List ℕ) (dots k n size : ℕ) (list : List ℕ) → dots ≡ k → Squared row k n size list → Squared row dots n size list
-squared-told row dots k n size list e v = rw e v
+pub squared-told : (row : List ℕ) (dots k n : ℕ) (before list : List ℕ) → dots ≡ k → Squared row k n before list → Squared row dots n before list
+squared-told row dots k n before list e v = rw e v
 
 -- four, as it is no other number
-pub squared-last : (row : List ℕ) (dots n size : ℕ) (list : List ℕ) → 2 ≤ dots → dots ≤ 4 → (dots ≡ 2 → ⊥) → (dots ≡ 3 → ⊥) → Squared row 4 n size list → Squared row dots n size list
-squared-last row dots n size list h k x y = squared-told row dots 4 n size list (omega arith)
+pub squared-last : (row : List ℕ) (dots n : ℕ) (before list : List ℕ) → 2 ≤ dots → dots ≤ 4 → (dots ≡ 2 → ⊥) → (dots ≡ 3 → ⊥) → Squared row 4 n before list → Squared row dots n before list
+squared-last row dots n before list h k x y = squared-told row dots 4 n before list (omega arith)
+
+-- each of its bytes is told
+pub one-squared : OneSquared
+one-squared row dots n before list list′ v w =
+    ext-getD 0 list list′ (v .same ∙ sym (w .same))
+    (λ j l. ⊎-elim (λ (h : dots * n ≤ j). v .rest j h ∙ sym (w .rest j h)) (λ (h : j < dots * n). v .is j h ∙ sym (w .is j h)) (le-or-lt (dots * n) j))
 
 -- there is room for them
 pub room-told : (dots k n m : ℕ) → dots ≡ k → dots * n ≤ m → k * n ≤ m

@@ -23,7 +23,12 @@ spreadOf dots b phase = byteOf (λ i. bit b ((8 * phase + i) / dots))
 unfoldable pub squareAt : List ℕ → ℕ → ℕ → ℕ
 squareAt row dots j = byteOf (λ i. dot row ((8 * j + i) / dots))
 
--- the first n bytes of a row, with so many dots to a bit, stand at the front of a list of so many bytes
-pub record Squared (row : List ℕ) (dots n size : ℕ) (list : List ℕ) : Type 0 where
-  pub same : length list ≡ size
+-- the first n bytes of a row, with so many dots to a bit, stand at the front of a list, whose other bytes are as they were before
+pub record Squared (row : List ℕ) (dots n : ℕ) (before list : List ℕ) : Type 0 where
+  pub same : length list ≡ length before
   pub is : (j : ℕ) → j < dots * n → getD list j 0 ≡ squareAt row dots j
+  pub rest : (j : ℕ) → dots * n ≤ j → getD list j 0 ≡ getD before j 0
+
+-- two lists that it allows for one input are equal
+abbrev pub OneSquared : Type 0
+OneSquared = (row : List ℕ) (dots n : ℕ) (before list list′ : List ℕ) → Squared row dots n before list → Squared row dots n before list′ → list ≡ list′

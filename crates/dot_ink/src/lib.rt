@@ -102,7 +102,7 @@ fn three_last(b: u8) -> u8
 // The first n bytes of a row, two dots to a bit.
 fn by_two(ink: &mut [u8], row: &[u8], n: usize)
     requires { ⌜ (n ≤ length (now row)) × (2 * n ≤ length (now ink)) ⌝ }
-    ensures { λ _. ⌜ Squared (now (row .entry)) 2 n (length (now (ink .entry))) (now (ink .exit)) ⌝ }
+    ensures { λ _. ⌜ Squared (now (row .entry)) 2 n (now (ink .entry)) (now (ink .exit)) ⌝ }
 {
     let mut i: usize = 0;
     while i < n {
@@ -116,7 +116,7 @@ fn by_two(ink: &mut [u8], row: &[u8], n: usize)
 // The same, three dots to a bit.
 fn by_three(ink: &mut [u8], row: &[u8], n: usize)
     requires { ⌜ (n ≤ length (now row)) × (3 * n ≤ length (now ink)) ⌝ }
-    ensures { λ _. ⌜ Squared (now (row .entry)) 3 n (length (now (ink .entry))) (now (ink .exit)) ⌝ }
+    ensures { λ _. ⌜ Squared (now (row .entry)) 3 n (now (ink .entry)) (now (ink .exit)) ⌝ }
 {
     let mut i: usize = 0;
     while i < n {
@@ -131,7 +131,7 @@ fn by_three(ink: &mut [u8], row: &[u8], n: usize)
 // The same, four dots to a bit.
 fn by_four(ink: &mut [u8], row: &[u8], n: usize)
     requires { ⌜ (n ≤ length (now row)) × (4 * n ≤ length (now ink)) ⌝ }
-    ensures { λ _. ⌜ Squared (now (row .entry)) 4 n (length (now (ink .entry))) (now (ink .exit)) ⌝ }
+    ensures { λ _. ⌜ Squared (now (row .entry)) 4 n (now (ink .entry)) (now (ink .exit)) ⌝ }
 {
     let mut i: usize = 0;
     while i < n {
@@ -144,10 +144,11 @@ fn by_four(ink: &mut [u8], row: &[u8], n: usize)
     }
 }
 
-// The first n bytes of a row as squares of two, three or four dots: what each of its page rows has, from the row's first dot on.
+// The first n bytes of a row as squares of two, three or four dots: what each of its page rows has, from the row's first dot on. What stands behind
+// them in `ink` stays.
 pub fn squares(ink: &mut [u8], row: &[u8], n: usize, dots: usize)
     requires { ⌜ (2 ≤ dots) × (dots ≤ 4) × (n ≤ length (now row)) × (dots * n ≤ length (now ink)) ⌝ }
-    ensures { λ _. ⌜ Squared (now (row .entry)) dots n (length (now (ink .entry))) (now (ink .exit)) ⌝ }
+    ensures { λ _. ⌜ Squared (now (row .entry)) dots n (now (ink .entry)) (now (ink .exit)) ⌝ }
 {
     if dots == 2 {
         by_two(ink, row, n);

@@ -41,7 +41,7 @@ zeros-length n k h = sym (length-take-le {A = ℕ} n (replicate k 0) (simp lengt
 pub used-length : (row : List ℕ) (e : ℕ) → Used row e → e ≡ length (take e row)
 used-length row e u = sym (length-take-le e row (u .inside))
 
-module _ (row : List ℕ) (d n size m : ℕ) (list behind : List ℕ) (e : m ≡ size) (k : Squared row d n size list) where
+module _ (row : List ℕ) (d n m : ℕ) (before list behind : List ℕ) (e : m ≡ length before) (k : Squared row d n before list) where
   -- m bytes are there
   pub squares-inside : m ≤ length (list ++ behind)
   squares-inside = omega (arith, length-append list behind, k .same)
