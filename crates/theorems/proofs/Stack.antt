@@ -40,9 +40,9 @@ pub pop-empty : (g : Measure) (v : Value) (c : Core) → wholePart v ≡ 1 → c
 unfolding bar barred
 pop-empty g v c e h = rw (e, h)
 
-pushes-cursor : (c : Core) → length (c .stack) ≡ 20 → c .depth < 20 → Pushed c (pushed c)
+pushes-cursor : (c : Core) → Pushed c (pushed c)
 unfolding pushed
-pushes-cursor c l h = record { depth = refl; top = getD-set-same (c .stack) (c .depth) (c .at) origin (omega arith); rest = refl }
+pushes-cursor c = record { depth = refl; stack = refl; rest = refl }
 
 pops-cursor : (c d : Core) → length (c .stack) ≡ 20 → c .depth < 20 → d .stack ≡ pushed c .stack → d .depth ≡ pushed c .depth → Popped c d (popped d)
 unfolding pushed popped
@@ -63,7 +63,7 @@ push-then-pop g push pop c d zero-part one-part l h s e =
     let n : d .depth ≡ pushed c .depth = rw (push-is g push c zero-part) at e in
     record {
       free = push-free g push c zero-part h;
-      pushes = rw (push-is g push c zero-part) (pushes-cursor c l h);
+      pushes = rw (push-is g push c zero-part) (pushes-cursor c);
       held = pop-held g pop d one-part (deep n);
       pops = rw (pop-is g pop d one-part) (pops-cursor c d l h k n);
     }
