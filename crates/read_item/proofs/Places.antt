@@ -20,7 +20,7 @@ use Rattle.rules.specs.Items as rule
 use Rattle.rules.specs.Items.{Reading, endsInside, hasPayload, payload, letter, parameter, group, behindEscape, isText, read}
 use Rattle.rules.specs.Acts.{isClosed}
 use Rattle.theorems.proofs.Suffixes.{Suffix, here, there, suffix-trans, suffix-nil, suffix-short, suffix-is, value-suffix}
-use Rattle.theorems.proofs.Reading.{Bounded, HoldsLow, read-sane}
+use Rattle.theorems.proofs.Reading.{Readable, HoldsLow, read-sane}
 use Rattle.read_item.specs.declared.Item.{Item}
 use Rattle.read_item.specs.declared.Item.the-variants as found
 use Rattle.read_item.specs.declared.ReadItem.{ReadItem}
@@ -139,8 +139,8 @@ read-nothing Closed = refl
 read-nothing (Open f g) = refl
 
 -- an item's value and payload keep their bounds
-read-bounded : (q : Sequence) (s : List ℕ) → Bounded (read q s .item)
-unfolding Bounded
+read-bounded : (q : Sequence) (s : List ℕ) → Readable (read q s .item)
+unfolding Readable
 read-bounded q [] = rw (read-nothing q) tt
 read-bounded q (b ∷ s) = read-sane q (b ∷ s) (and-false-right (isClosed q) false refl) .bounded
 
@@ -161,8 +161,8 @@ record Fits (n : ℕ) (i : Item) : Type 0 where
   low : sizeIn i ≤ 327670000
 
 -- an item of the rules keeps them, wherever it ends
-item-fits : (n : ℕ) (x : rule.Item) → Bounded x → Fits n (itemTo n x)
-unfolding Bounded
+item-fits : (n : ℕ) (x : rule.Item) → Readable x → Fits n (itemTo n x)
+unfolding Readable
 item-fits n (rule.text b) h = record { ordered = omega arith; ended = omega arith; counted = omega arith; low = omega arith }
 item-fits n (rule.code b) h = record { ordered = omega arith; ended = omega arith; counted = omega arith; low = omega arith }
 item-fits n (rule.two b) h = record { ordered = omega arith; ended = omega arith; counted = omega arith; low = omega arith }
