@@ -6,6 +6,7 @@ ghost use Prim.Native.Nat.{_≤_};
 ghost use lib.ListN.{length};
 ghost use Rattle.given.specs.Words.{Spelt};
 ghost use Rattle.given.specs.Reads.{readSaid, Came, Within, noJob};
+use rules::LONGEST_STREAM;
 
 // The job, by the number of its bytes, or that it could not be read.
 pub enum Given {
@@ -34,10 +35,10 @@ pub fn measure_word(i: usize, otherwise: usize) -> usize
 
 // A place for the longest job and one byte, so that a longer one is seen to be longer. A function of its own hides the zeros, of which
 // no proof can count so many.
-pub fn longest_input() -> [u8; 1048577]
+pub fn longest_input() -> [u8; LONGEST_STREAM + 1]
     ensures { λ r. ⌜ r ≡ noJob ⌝ }
 {
-    [0u8; 1048577]
+    [0u8; LONGEST_STREAM + 1]
 }
 
 // What the answer of a read means.

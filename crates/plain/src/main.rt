@@ -5,10 +5,11 @@
 use given::Given;
 use libc::STDERR_FILENO;
 use libc::STDOUT_FILENO;
+use rules::LONGEST_STREAM;
 
 // A room for the longest plain stream, in zeros. A function of its own hides them: no proof can count so many.
-fn longest_room() -> [u8; 1048576] {
-    [0u8; 1048576]
+fn longest_room() -> [u8; LONGEST_STREAM] {
+    [0u8; LONGEST_STREAM]
 }
 
 // What is said of a stream, a refusal on standard error; whether it was written.
