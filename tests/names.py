@@ -26,6 +26,7 @@ docs/CONTRACTS.md: in the table of functions the row's crate has each function a
 function has a row, and one with a `requires` is under 'functions that ask something'; every theorem has a row; each edit in brackets is one of
 the row's crate (of tests/edits, for a theorem), and every edit is in some row.
 docs/DECISIONS.md: each section has the date of its landing.
+Edits: what each replaces stands in the file that it changes.
 Counts: those in COUNTED are the sources'; the cases of ./test in README.md and docs/ASSESSMENT.md are those of the script, and those by hand
 are the same in both; README.md has the numbers of findings and refusals, and the files of the rules; docs/SPEED.md has the tables of bench/run.
 
@@ -42,7 +43,7 @@ import trace  # tests/trace.py
 from trace import ROOT, found, text
 
 LEAST = {"function": 75, "edit": 200, "path": 200, "word": 12, "definition": 130, "crate": 5, "name": 850, "link": 140, "heading": 5, "row": 95,
-         "asking": 40, "count": 18, "date": 12, "change": 1}
+         "asking": 40, "count": 18, "date": 12, "change": 1, "replaced": 200}
 ENDINGS = ".antt .c .edit .h .html .lock .md .pbm .pcl .png .py .rs .rt .sh .toml .tsv .txt .xz".split()
 ANY = ("NAME", "CRATE", "FILE")
 FORMS = {"crate::name", "rovinuset::name", "file::name", "File: name"}  # what the documents call the forms of names themselves
@@ -471,13 +472,27 @@ def wrong_lists():
             yield "docs/DECISIONS.md: no date in '%s'" % heading
 
 
+def wrong_edits():
+    """Edits whose old text is no longer in the file that they change: rt sees it too, but behind all proofs."""
+    for path in found("crates/*/must-fail/*.edit") + found("tests/edits/beside/*/*.edit"):
+        crate = path.split(os.sep)[-3 if "must-fail" in path else -2]
+        lines = [line.partition(": ") for line in text(path).split("\n")]
+        for key, _, old in lines:
+            if key == "file":
+                changed = text("crates", crate, old)
+            elif key == "old":
+                looked["replaced"] += 1
+                if old not in changed:
+                    yield "%s: what it replaces is not there: %s" % (path, old)
+
+
 def main():
     papers = ["README.md", "second/README.md", *found("docs/*.md"), *found("docs/landings/*.md"), *found("tests/vectors/*/README.md")]
     for path in papers:
         document(path)
         faults.extend(wrong_counts(path))
     faults.extend(CONTRACTS + ": " + what for what in wrong_contracts())
-    faults.extend([*wrong_cases(), *wrong_lists()])
+    faults.extend([*wrong_cases(), *wrong_lists(), *wrong_edits()])
     faults.extend("only %d of the kind %s are recognised, and not %d: names.py reads the documents wrongly" % (looked[kind], kind, least)
                   for kind, least in LEAST.items() if looked[kind] < least)
     said = ", ".join("%s %d" % pair for pair in sorted(looked.items()))
