@@ -1,2 +1,3 @@
 -- The laws of a stream written plain.
+pub mod Alike
 pub mod Telling

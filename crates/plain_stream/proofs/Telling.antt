@@ -14,18 +14,18 @@ use Rattle.common.proofs.Places.{cut}
 use Rattle.rules.specs.declared.Measure.{Measure}
 use Rattle.rules.specs.declared.Sequence.{Sequence}
 use Rattle.rules.specs.declared.Sequence.the-variants.{Closed, Open}
-use Rattle.rules.specs.declared.Spot.{Spot}
 use Rattle.rules.specs.declared.Finding.{Finding}
 use Rattle.rules.specs.declared.Finding.the-variants.{Nothing}
 use Rattle.rules.specs.declared.Core.{Core}
 use Rattle.rules.specs.declared.Beside.{Beside}
 use Rattle.rules.specs.declared.State.{State}
-use Rattle.rules.specs.Sound.{sequenceSound}
-use Rattle.rules.specs.Measure.{longestStream}
+use Rattle.rules.specs.Sound.{allZero, sequenceSound}
+use Rattle.rules.specs.Measure.{longestStream, stackHolds, rowHolds}
 use Rattle.rules.specs.States.{stateOf, afresh}
 use Rattle.rules.specs.Items.{read}
 use Rattle.rules.specs.Items as rule
-use Rattle.rules.specs.Acts.{Act, mean, step, isClosed, over}
+use Rattle.rules.specs.Codes.{typed}
+use Rattle.rules.specs.Acts.{Act, Meaning, nextAll, mean, step, isClosed, over}
 use Rattle.rules.specs.Run.{trace, enough, wholeStream, actsOf, acts}
 use Rattle.rules.specs.Plain.{put, putAll, plain}
 use Rattle.read_item.specs.declared.ReadItem.{ReadItem}
@@ -35,11 +35,11 @@ use Rattle.read_item.proofs.Places.{read-back}
 use Rattle.state_pen.specs.declared.Pen.{Pen}
 use Rattle.state_pen.specs.Pens.{penOf, coreOf}
 use Rattle.do_deed.specs.declared.Deed.{Deed}
-use Rattle.do_deed.specs.Acted.{Acted, actedOf, acted, ActedOn}
+use Rattle.do_deed.specs.Acted.{Acted, actedOf, acted, pageAfter, ActedOn}
 use Rattle.do_deed.specs.Deeds.{wholeOf, DeedOn}
-use Rattle.do_text.specs.Cursor.{typedPen}
+use Rattle.do_deed.proofs.Acts.{text-done}
 use Rattle.run_items.specs.Turns.{textNext, ItemDone}
-use Rattle.run_items.proofs.Turns.{item-done, over-not, pen-back, text-told, text-at, text-acts}
+use Rattle.run_items.proofs.Turns.{item-done, over-not, text-told, text-at}
 use Rattle.theorems.specs.Facts.{Fits, Shaped, SoundState}
 use Rattle.theorems.proofs.Reading.{left}
 use Rattle.theorems.proofs.Lengths.{fresh-shaped}
@@ -47,6 +47,7 @@ use Rattle.theorems.proofs.Soundness.{fresh-sound}
 use Rattle.theorems.proofs.Streams.{step-shaped, step-left}
 use Rattle.theorems.proofs.Sound.{step-sound}
 use Rattle.theorems.proofs.Pages.{step-single}
+use Rattle.plain_stream.proofs.Alike.{stripped, Alike, mean-alike, next-alike}
 use Rattle.plain_stream.specs.Walked.{walkedFrom, walked}
 use Rattle.common.specs.Stores.{Puts}
 use Rattle.plain_item.specs.Plain.{PutsShort, plainItem}
@@ -217,56 +218,115 @@ module _ (g : Measure) (fit : Fits g) (most : ℕ) (s before : List ℕ) (t : St
           sound = step-sound g fit t (drop at s) not-over (h .shaped) (h .sound);
         })
 
-module _ (g : Measure) (fit : Fits g) (most : ℕ) (s before : List ℕ) (n : Pen) (k : List Spot) (seed : List ℕ) (m : Beside) (q : Sequence) (at : ℕ) (room : List ℕ) (end : ℕ)
-    (h : Telling g most s before (stateOf (coreOf n k seed) m q) at room end) where
-  -- behind a space or a text byte
-  pub telling-text : (x : Bool) (n′ : Pen) (room′ : List ℕ) (end′ : ℕ) → end ≤ most → x ≡ textNext s at q → x ≡ true → n′ ≡ typedPen g n (getD s at 0)
-      → Puts room end (getD s at 0 ∷ []) room′ end′ → Telling g most s before (stateOf (coreOf n′ k seed) m q) (at + 1) room′ end′
-  unfolding plainItem
-  telling-text x n′ room′ end′ w e f d p =
+-- less is left behind a text byte
+pub text-less : (s : List ℕ) (at : ℕ) (q : Sequence) (x : Bool) → x ≡ textNext s at q → x ≡ true → left q (drop (at + 1) s) < left q (drop at s)
+unfolding left
+text-less s at q x e f = let z = text-told s at q x e f in go q (z .inside)
+  where
+    go : (r : Sequence) → at < length s → left r (drop (at + 1) s) < left r (drop at s)
+    go Closed l = rw (cut s at l) (omega arith)
+    go (Open first group) l = rw (cut s at l) (omega arith)
+
+-- a walk is under way, in a state that is alike to what the loop keeps: the plain stream hangs on neither the cursor nor the stack's places
+pub record Walking (g : Measure) (most : ℕ) (s before : List ℕ) (n : Pen) (seed : List ℕ) (m : Beside) (q : Sequence) (at : ℕ) (room : List ℕ) (end : ℕ) : Type 0 where
+  pub core : Core
+  pub alike : Alike core (coreOf n [] seed)
+  pub telling : Telling g most s before (stateOf core m q) at room end
+
+-- before the first item
+pub walking-first : (g : Measure) (most : ℕ) (s room : List ℕ) (t : State) (n : Pen) → Fits g → t ≡ afresh g → n ≡ penOf (t .core) → Walking g most s room n (t .core .seed) (t .beside) (t .sequence) 0 room 0
+walking-first g most s room t n f e k = record { core = t .core; alike = rw k; telling = telling-first g most s room t f e }
+
+module _ (g : Measure) (fit : Fits g) (most : ℕ) (s before : List ℕ) (n : Pen) (seed : List ℕ) (m : Beside) (q : Sequence) (at : ℕ) (room : List ℕ) (end : ℕ)
+    (h : Walking g most s before n seed m q at room end) where
+  -- the depth is one that the stack holds
+  pub walking-depth : n .depth ≤ stackHolds
+  walking-depth = rw (ap (λ (c : Core). c .depth) (h .alike)) at (h .telling .sound .core .depth)
+
+  seeds : h .core .seed ≡ seed
+  seeds = ap (λ (c : Core). c .seed) (h .alike)
+
+  -- the seed row is one of this page, and as long as it always is
+  pub walking-zero : allZero (drop (g .wide) seed) ≡ true
+  walking-zero = rw seeds at (h .telling .sound .core .seed)
+
+  pub walking-long : length seed ≡ rowHolds
+  walking-long = rw seeds at (h .telling .shaped .0)
+
+  -- behind a space or a text byte, which moves the cursor
+  pub walking-text : (x : Bool) (room′ : List ℕ) (end′ : ℕ) → end ≤ most → x ≡ textNext s at q → x ≡ true → Puts room end (getD s at 0 ∷ []) room′ end′ → Walking g most s before n seed m q (at + 1) room′ end′
+  unfolding plainItem typed
+  walking-text x room′ end′ w e f p =
       let z = text-told s at q x e f in
       let b = getD s at 0 in
       let v = p .next in
-      go q (z .closed) h (over-not s at q (z .inside)) (text-at s at (z .inside) (z .text)) (text-acts g b n n′ k seed m [] d) (record { puts = p; small = omega arith })
+      record {
+        core = typed g b (h .core);
+        alike = h .alike;
+        telling = go q (z .closed) (h .telling) (over-not s at q (z .inside)) (text-at s at (z .inside) (z .text)) (text-done g b (h .core) (typed g b (h .core)) m refl []) (record { puts = p; small = omega arith });
+      }
     where
-      go : (r : Sequence) → r ≡ Closed → Telling g most s before (stateOf (coreOf n k seed) m r) at room end → false ≡ over (stateOf (coreOf n k seed) m r) (drop at s)
+      go : (r : Sequence) → r ≡ Closed → Telling g most s before (stateOf (h .core) m r) at room end → false ≡ over (stateOf (h .core) m r) (drop at s)
           → ItemAt s at Closed (record { item = found.Text (getD s at 0); sequence = Closed; next = at + 1 })
-          → ActedOn g (mean g (rule.text (getD s at 0)) (coreOf n k seed) m) (coreOf n k seed) [] (actedOf (coreOf n′ k seed) m Nothing false) [] → PutsShort room end (getD s at 0 ∷ []) room′ end′
-          → Telling g most s before (stateOf (coreOf n′ k seed) m r) (at + 1) room′ end′
-      go Closed e h v i a q =
-          telling-more g fit most s before (stateOf (coreOf n k seed) m Closed) at room end h false v refl (record { item = found.Text (getD s at 0); sequence = Closed; next = at + 1 }) (actedOf (coreOf n′ k seed) m Nothing false) [] [] i a w [] room′ end′ refl q
-      go (Open first group) e h v i a q = absurd (false≢true (ap isClosed e))
+          → ActedOn g (mean g (rule.text (getD s at 0)) (h .core) m) (h .core) [] (actedOf (typed g (getD s at 0) (h .core)) m Nothing false) [] → PutsShort room end (getD s at 0 ∷ []) room′ end′
+          → Telling g most s before (stateOf (typed g (getD s at 0) (h .core)) m r) (at + 1) room′ end′
+      go Closed e h′ v i a q =
+          telling-more g fit most s before (stateOf (h .core) m Closed) at room end h′ false v refl (record { item = found.Text (getD s at 0); sequence = Closed; next = at + 1 }) (actedOf (typed g (getD s at 0) (h .core)) m Nothing false) [] [] i a w [] room′ end′ refl q
+      go (Open first group) e h′ v i a q = absurd (false≢true (ap isClosed e))
 
-  -- less is left behind a text byte
-  pub text-less : (x : Bool) → x ≡ textNext s at q → x ≡ true → left q (drop (at + 1) s) < left q (drop at s)
-  unfolding left
-  text-less x e f = let z = text-told s at q x e f in go q (z .inside)
-    where
-      go : (r : Sequence) → at < length s → left r (drop (at + 1) s) < left r (drop at s)
-      go Closed l = rw (cut s at l) (omega arith)
-      go (Open first group) l = rw (cut s at l) (omega arith)
+  -- an item done on the parts that the loop keeps
+  module _ (x : Bool) (e : x ≡ over (stateOf (h .core) m q) (drop at s)) (f : x ≡ false) (r : ReadItem) (d : Deed) (p seed′ p′ : List ℕ) (i : ItemAt s at q r)
+      (k : DeedOn g (λ (c : Core). mean g (itemIn s (r .item)) c m) n seed p d seed′ p′) where
+    abbrev here : Meaning
+    here = mean g (itemIn s (r .item)) (h .core) m
 
--- before the first item, where the state was taken apart
-pub telling-apart : (g : Measure) (most : ℕ) (s room : List ℕ) (t : State) (n : Pen) → Fits g → t ≡ afresh g → n ≡ penOf (t .core) → Telling g most s room (stateOf (coreOf n (t .core .stack) (t .core .seed)) (t .beside) (t .sequence)) 0 room 0
-telling-apart g most s room t n f e k = rw (pen-back n (t .core) k) (telling-first g most s room t f e)
+    -- what it does in the state that is reached
+    abbrev there : Acted
+    there = acted g here (h .core) p
 
--- an item done on the parts of a core
-module _ (g : Measure) (fit : Fits g) (most : ℕ) (s before : List ℕ) (n : Pen) (l : List Spot) (seed : List ℕ) (m : Beside) (q : Sequence) (at : ℕ) (room : List ℕ) (end : ℕ) (h : Telling g most s before (stateOf (coreOf n l seed) m q) at room end)
-    (x : Bool) (e : x ≡ over (stateOf (coreOf n l seed) m q) (drop at s)) (f : x ≡ false) (r : ReadItem) (d : Deed) (p seed′ p′ : List ℕ) (i : ItemAt s at q r)
-    (k : DeedOn g (λ (c : Core). mean g (itemIn s (r .item)) c m) n seed p d seed′ p′) where
-  -- the seed row keeps its length
-  pub deed-long : length seed′ ≡ 600
-  deed-long = telling-seed g fit most s before (stateOf (coreOf n l seed) m q) at room end h x e f r (wholeOf n l seed′ d) p p′ i (k .acted l)
+    there-on : ActedOn g here (h .core) p there (pageAfter g here (h .core) p)
+    there-on = record { given = refl; page = refl }
 
-  -- it holds a row
-  pub deed-seed : g .wide ≤ length seed′
-  deed-seed = let n = deed-long in let w = fit .wide in omega arith
+    -- it means the same to the loop
+    means : here ≡ mean g (itemIn s (r .item)) (coreOf n [] seed) m
+    means = mean-alike g (itemIn s (r .item)) (h .core) (coreOf n [] seed) m (h .alike)
 
-  -- less is left
-  pub deed-less : left (r .sequence) (drop (r .next) s) < left q (drop at s)
-  deed-less = telling-less g fit most s before (stateOf (coreOf n l seed) m q) at room end h x e f r (wholeOf n l seed′ d) p p′ i (k .acted l)
+    -- and the loop is left with parts that are alike
+    behind : Alike (there .core) (wholeOf n [] seed′ d .core)
+    unfolding acted
+    behind =
+        ap (λ (o : Meaning). stripped (nextAll g (o .acts) (h .core))) means
+        ∙ next-alike g (mean g (itemIn s (r .item)) (coreOf n [] seed) m .acts) (h .core) (coreOf n [] seed) (h .alike)
+        ∙ sym (ap (λ (a : Acted). stripped (a .core)) (k .acted [] .given))
 
-  -- behind it
-  pub telling-deed : end ≤ most → (c : Core) → wholeOf n l seed′ d .core ≡ c → (none room′ : List ℕ) (end′ : ℕ) → length none ≡ 0 → PutsShort (none ++ room) end (plainItem (itemIn s (r .item)) (d .finding) (take (g .wide) seed′)) room′ end′
-      → Telling g most s before (stateOf c (d .beside) (r .sequence)) (r .next) room′ end′
-  telling-deed v c z none room′ end′ y w = rw (← z) (telling-more g fit most s before (stateOf (coreOf n l seed) m q) at room end h x e f r (wholeOf n l seed′ d) p p′ i (k .acted l) v none room′ end′ y w)
+    seed-behind : there .core .seed ≡ seed′
+    seed-behind = ap (λ (c : Core). c .seed) behind
+
+    finding-behind : there .finding ≡ d .finding
+    unfolding acted
+    finding-behind = ap (λ (o : Meaning). o .finding) means ∙ sym (ap (λ (a : Acted). a .finding) (k .acted [] .given))
+
+    beside-behind : there .beside ≡ d .beside
+    unfolding acted
+    beside-behind = ap (λ (o : Meaning). o .beside) means ∙ sym (ap (λ (a : Acted). a .beside) (k .acted [] .given))
+
+    -- the seed row keeps its length
+    pub deed-long : length seed′ ≡ rowHolds
+    deed-long = rw seed-behind at (telling-seed g fit most s before (stateOf (h .core) m q) at room end (h .telling) x e f r there p (pageAfter g here (h .core) p) i there-on)
+
+    -- it holds a row
+    pub deed-seed : g .wide ≤ length seed′
+    deed-seed = let n = deed-long in let w = fit .wide in omega arith
+
+    -- less is left
+    pub deed-less : left (r .sequence) (drop (r .next) s) < left q (drop at s)
+    deed-less = telling-less g fit most s before (stateOf (h .core) m q) at room end (h .telling) x e f r there p (pageAfter g here (h .core) p) i there-on
+
+    -- behind it
+    pub walking-deed : end ≤ most → (none room′ : List ℕ) (end′ : ℕ) → length none ≡ 0 → PutsShort (none ++ room) end (plainItem (itemIn s (r .item)) (d .finding) (take (g .wide) seed′)) room′ end′
+        → Walking g most s before (d .pen) seed′ (d .beside) (r .sequence) (r .next) room′ end′
+    walking-deed v none room′ end′ y w = record {
+      core = there .core;
+      alike = behind;
+      telling = rw (← beside-behind) (telling-more g fit most s before (stateOf (h .core) m q) at room end (h .telling) x e f r there p (pageAfter g here (h .core) p) i there-on v none room′ end′ y (rw (← finding-behind, ← seed-behind) at w));
+    }

@@ -8,16 +8,13 @@ ghost use Rattle.theorems.specs.Facts.{Fits};
 ghost use Rattle.read_item.specs.Items.{itemIn, fromOf, toOf};
 ghost use Rattle.plain_item.specs.Plain.{PutsShort, plainItem};
 ghost use Rattle.plain_stream.specs.Walked.{walked};
-use do_deed::Stacking;
 use do_item::do_item;
-use do_text::typed_pen;
 use plain_item::write_item;
 use plain_short::write_one;
 use read_item::Item;
 use read_item::read_item;
 use rules::Finding;
 use rules::Measure;
-use rules::Spot;
 use run_items::is_over;
 use run_items::text_next;
 use state_afresh::afresh;
@@ -39,8 +36,9 @@ fn write_done(
     write_item(s, i, f, &seed[0..wide], room, at)
 }
 
-// The stream walked from its start, afresh, to its end, as a run does it: text here, all else by `do_item`. What is drawn falls on a page of no bytes.
-// It ends early, behind the item with which more than `most` bytes are written.
+// The stream walked from its start, afresh, to its end: text is written here, all else is done by `do_item`. What is drawn falls on a page of no bytes.
+// What an item means hangs on no cursor, so text does not move the pen here, and there is no stack: a pop leaves the pen where it is, and its depth is
+// what counts. The walk ends early, behind the item with which more than `most` bytes are written.
 pub fn write_stream(g: Measure, s: &[u8], room: &mut [u8], most: usize) -> usize
     requires { ⌜ Fits g × (length (now s) ≤ longestStream) ⌝ }
     ensures { λ r. ⌜ Puts (now (room .entry)) 0 (walked g most (now (s .entry))) (now (room .exit)) r ⌝ }
@@ -48,7 +46,6 @@ pub fn write_stream(g: Measure, s: &[u8], room: &mut [u8], most: usize) -> usize
     let t = afresh(g);
     let core = t.core;
     let mut pen = pen_of(core);
-    let mut stack = core.stack;
     let mut seed = core.seed;
     let mut beside = t.beside;
     let mut sequence = t.sequence;
@@ -59,7 +56,6 @@ pub fn write_stream(g: Measure, s: &[u8], room: &mut [u8], most: usize) -> usize
             return end;
         }
         if text_next(s, at, sequence) {
-            pen = typed_pen(g, pen, s[at]);
             end = write_one(s[at], room, end);
             at += 1;
             continue;
@@ -70,30 +66,11 @@ pub fn write_stream(g: Measure, s: &[u8], room: &mut [u8], most: usize) -> usize
         let r = read_item(s, at, sequence);
         let item = r.item;
         let d = do_item(&mut room[0..0], g, s, item, pen, beside, &mut seed);
-        let from = pen.at;
-        let depth = pen.depth;
-        let stacking = d.stacking;
         let finding = d.finding;
         pen = d.pen;
         beside = d.beside;
         sequence = r.sequence;
         at = r.next;
         end = write_done(s, item, finding, &seed, g.wide, room, end);
-        match stacking {
-            Stacking::Kept => {}
-            Stacking::Pushed => {
-                stack[depth] = from;
-            }
-            Stacking::Popped => {
-                let below = pen.depth;
-                let to = stack[below];
-                let free = Spot { x: 0, y: 0 };
-                stack[below] = free;
-                pen.at = to;
-            }
-            Stacking::Emptied => {
-                stack = [Spot { x: 0, y: 0 }; 20];
-            }
-        }
     }
 }
