@@ -30,7 +30,7 @@ use Rattle.rules.specs.Run.{trace, enough, wholeStream, actsOf, acts}
 use Rattle.rules.specs.Plain.{put, putAll, plain}
 use Rattle.read_item.specs.declared.ReadItem.{ReadItem}
 use Rattle.read_item.specs.declared.Item.the-variants as found
-use Rattle.read_item.specs.Items.{readAt, itemIn, ItemAt}
+use Rattle.read_item.specs.Items.{itemIn, ItemAt}
 use Rattle.read_item.proofs.Places.{read-back}
 use Rattle.state_pen.specs.declared.Pen.{Pen}
 use Rattle.state_pen.specs.Pens.{penOf, coreOf}
