@@ -2,7 +2,7 @@
 // Nothing is refused. Any cursor and any layout are taken; a measure within 4,800 by 6,800 dots is asked for, so that lengths fit.
 ghost use mathlib.Core.Path.{_≡_};
 ghost use mathlib.Core.Bool.{cond, _||_};
-ghost use Prim.Native.Nat.{_+_, _*_, _-_, _/_, _≤_, _<_, max};
+ghost use Prim.Native.Nat.{_+_, _*_, _-_, _/_, _<_, max};
 ghost use lib.Dec.{eqb, ltb};
 ghost use Rattle.rules.specs.declared.Core.{Core};
 ghost use Rattle.rules.specs.declared.Code.the-variants.{CarriageReturn, LineFeed, FormFeed, Backspace, Tab};

@@ -1,7 +1,7 @@
 // Paper 01, "Commands": where a command puts the cursor. A measure within 4,800 by 6,800 dots is asked for, so that lengths fit.
 ghost use mathlib.Core.Path.{_≡_};
 ghost use mathlib.Core.Bool.{cond};
-ghost use Prim.Native.Nat.{_+_, _-_, _≤_, _<_};
+ghost use Prim.Native.Nat.{_+_, _-_, _<_};
 ghost use Rattle.rules.specs.Measure.{Bounded};
 ghost use Rattle.rules.specs.Effects.{target, displacement};
 ghost use Rattle.do_position.specs.Spots.{acrossSpot, downSpot};

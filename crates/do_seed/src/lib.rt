@@ -1,7 +1,6 @@
 // What a row does to the state besides its dots and its bytes.
 ghost use mathlib.Core.Path.{_≡_};
 ghost use mathlib.Core.Bool.{cond};
-ghost use Prim.Native.Nat.{_≤_};
 ghost use Rattle.rules.specs.Measure.{Bounded};
 ghost use Rattle.rules.specs.States.{zeroSeed};
 ghost use Rattle.do_seed.specs.Cursor.{rasterBegun, rowSpot};

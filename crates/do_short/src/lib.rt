@@ -3,7 +3,7 @@
 ghost use mathlib.Core.Path.{_≡_};
 ghost use mathlib.Core.Bool.{false, cond};
 ghost use mathlib.Core.List.{List};
-ghost use Prim.Native.Nat.{ℕ, _≤_};
+ghost use Prim.Native.Nat.{ℕ};
 ghost use Rattle.rules.specs.declared.Core.{Core};
 ghost use Rattle.rules.specs.declared.Escape.the-variants.{Reset, ClearMargins, HalfLine};
 ghost use Rattle.rules.specs.Measure.{Bounded};

@@ -2,7 +2,6 @@
 // Nothing is refused. Any cursor is taken; a measure within 4,800 by 6,800 dots is asked for, so that lengths fit.
 ghost use mathlib.Core.Path.{_≡_};
 ghost use mathlib.Core.Bool.{cond, not, _||_};
-ghost use Prim.Native.Nat.{_≤_};
 ghost use lib.Dec.{eqb, leb};
 ghost use Rattle.rules.specs.Measure.{Bounded, LW};
 ghost use Rattle.do_text.specs.Cursor.{forwardSpot, typedSpot, typedPen, TypedAll};

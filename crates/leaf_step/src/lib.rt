@@ -1,6 +1,5 @@
 // A step of a job behind a boundary to C, for tests: steps are compared with refused states, pages and places among the cases.
 // What a step refuses is refused by the paper's number, and writes nothing.
-ghost use mathlib.Core.Path.{_≡_};
 ghost use Prim.Native.Nat.{_≤_};
 ghost use lib.ListN.{length};
 ghost use Rattle.leaf_step.specs.Told.{Kept, ToldStep};

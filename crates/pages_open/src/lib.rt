@@ -1,6 +1,5 @@
 // What stands before the pages of a job: the first line of its report, with the refusal if there is one, and the head of each page as PBM has it.
 // Both are written into a room that is lent: what has no room is not written.
-ghost use mathlib.Core.Path.{_≡_};
 ghost use Rattle.common.specs.Stores.{Holds};
 ghost use Rattle.pages_open.specs.Opening.{Begins, pbmHead, longestHead};
 use number_write::put_byte;

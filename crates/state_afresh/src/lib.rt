@@ -1,6 +1,5 @@
 // Paper 01, "Measures": the state afresh. A measure within 4,800 by 6,800 dots is asked for; beyond it lengths would not fit.
 ghost use mathlib.Core.Path.{_≡_};
-ghost use Prim.Native.Nat.{_≤_};
 ghost use Rattle.rules.specs.Measure.{Bounded};
 ghost use Rattle.rules.specs.States.{freshTop, freshLayout, freshCore, afresh};
 use rules::Beside;
