@@ -6,6 +6,7 @@ use mathlib.Core.List.{List, [], _∷_}
 use Prim.Native.Nat.{ℕ, _+_}
 use lib.Dec.{eqb}
 use Rattle.common.specs.Lists.{pad}
+use Rattle.common.proofs.Choices.{choice}
 use Rattle.rules.specs.declared.Measure.{Measure}
 use Rattle.rules.specs.declared.Value.{Value}
 use Rattle.rules.specs.declared.Kind.{Kind}
@@ -24,7 +25,7 @@ use Rattle.rules.specs.Number.{wholePart}
 use Rattle.rules.specs.Commands.{useOf, usedValue}
 use Rattle.rules.specs.Items.{Item, text, code, two, command, broken}
 use Rattle.rules.specs.Effects.{pushed, popped, startedAt, rowHeight, effect, barred}
-use Rattle.rules.specs.Codes.{carriageReturn, lineFeed, firstLine, forwardTo, nextStop, feedsOnReturn, returnsOnFeed, typed, typedAll, coded, escaped}
+use Rattle.rules.specs.Codes.{firstLine, feedsOnReturn, returnsOnFeed, typed, typedAll, coded, escaped}
 use Rattle.rules.specs.Acts.{Act, type, control, escape, order, print, draw, drawn, next, nextAll, bar, gate, meanCode, meanTwo, meanRow, meanCommand, mean}
 
 -- a core without its cursor, its stack's places, its resolution, its graphics margin and whether its page is used: all that an item's meaning looks at
@@ -95,27 +96,11 @@ module _ (g : Measure) where
 
   coded-strips : (k : Code) (c : Core) → stripped (coded g k c) ≡ stripped c
   unfolding coded
-  coded-strips CarriageReturn c = go (feedsOnReturn c)
-    where
-      go : (t : Bool) → stripped (cond t (lineFeed g (carriageReturn g c)) (carriageReturn g c)) ≡ stripped c
-      go true = refl
-      go false = refl
-  coded-strips LineFeed c = go (returnsOnFeed c)
-    where
-      go : (t : Bool) → stripped (cond t (lineFeed g (carriageReturn g c)) (lineFeed g c)) ≡ stripped c
-      go true = refl
-      go false = refl
-  coded-strips FormFeed c = go (returnsOnFeed c)
-    where
-      go : (t : Bool) → stripped (withUsed false (firstLine g (cond t (carriageReturn g c) c))) ≡ stripped c
-      go true = refl
-      go false = refl
+  coded-strips CarriageReturn c = choice (λ (d : Core). stripped d ≡ stripped c) (feedsOnReturn c) refl refl
+  coded-strips LineFeed c = choice (λ (d : Core). stripped d ≡ stripped c) (returnsOnFeed c) refl refl
+  coded-strips FormFeed c = choice (λ (d : Core). stripped (withUsed false (firstLine g d)) ≡ stripped c) (returnsOnFeed c) refl refl
   coded-strips Backspace c = refl
-  coded-strips Tab c = go (eqb (c .layout .hmi) 0)
-    where
-      go : (t : Bool) → stripped (cond t c (forwardTo g (nextStop c) c)) ≡ stripped c
-      go true = refl
-      go false = refl
+  coded-strips Tab c = choice (λ (d : Core). stripped d ≡ stripped c) (eqb (c .layout .hmi) 0) refl refl
 
   effect-strips : (k : Kind) (v : Value) (c : Core) → stripped (effect g k v c) ≡ stripped (effect g k v (stripped c))
   unfolding effect pushed popped startedAt
