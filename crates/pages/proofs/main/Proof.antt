@@ -10,6 +10,9 @@ measure-word-requires c κs = search needs
 measure-word-requires-2 : tie.Need-measure-word-requires-2
 measure-word-requires-2 c κs = search needs
 
+measure-word-requires-3 : tie.Need-measure-word-requires-3
+measure-word-requires-3 c κs = search needs
+
 longest-input-requires : tie.Need-longest-input-requires
 longest-input-requires c κs = search needs
 
@@ -61,6 +64,7 @@ main-spec =
     (tie.spec
     measure-word-requires
     measure-word-requires-2
+    measure-word-requires-3
     longest-input-requires
     slice-aggregate-read-job
     read-job-requires

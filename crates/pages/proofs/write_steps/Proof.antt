@@ -11,11 +11,11 @@ use Rattle.run.proofs.Ready.{none-known}
 use Rattle.pages_step.proofs.Stepping.{Stepping, stepping-start, stepping-small, stepping-carried, stepping-less, stepping-again}
 
 abbrev Inv-loop : tie.InvT-loop
-Inv-loop page₀ w h s head room₀ state₀ place₀ number₀ findings₀ zeros₀ page room state place number findings zeros =
+Inv-loop page₀ w h s head room₀ asked state₀ place₀ number₀ findings₀ zeros₀ page room state place number findings zeros =
     Stepping w h s page room₀ room state place number findings × FirstZero zeros page
 
 abbrev μ-loop : tie.MeasureT-loop
-μ-loop page₀ w h s head room₀ state₀ place₀ number₀ findings₀ zeros₀ page room state place number findings zeros =
+μ-loop page₀ w h s head room₀ asked state₀ place₀ number₀ findings₀ zeros₀ page room state place number findings zeros =
     left (state .sequence) (drop place s)
 
 first-state-requires : tie.Need-first-state-requires Inv-loop μ-loop
@@ -53,43 +53,43 @@ same-length-2 c =
 returns : tie.Need-returns Inv-loop μ-loop
 returns c = search needs
 
-write-page-requires : tie.Need-write-page-requires Inv-loop μ-loop
-write-page-requires c κs = search needs
+slice-reshare-prefix-write-step : tie.Need-slice-reshare-prefix-write-step Inv-loop μ-loop
+slice-reshare-prefix-write-step c = search needs
+
+slice-aggregate-write-step : tie.Need-slice-aggregate-write-step Inv-loop μ-loop
+slice-aggregate-write-step c = simp length-take (search needs)
+
+write-step-requires : tie.Need-write-step-requires Inv-loop μ-loop
+write-step-requires c κs = search needs
 
 same-length-3 : tie.Need-same-length-3 Inv-loop μ-loop
 same-length-3 c =
-    let made = c .before .before .before .before .before .before .before .before .before in
+    let made = c .before .before .before .before .before .before .before .before .before .before in
     omega (arith, made .before .before .before .before .before .before .before .before .before .before .pre .1 .0, made .next .kept .0, made .before .before .before .before .loop .inv .0 .going .sized)
 
 same-length-4 : tie.Need-same-length-4 Inv-loop μ-loop
 same-length-4 c =
-    let made = c .before .before .before .before .before .before .before .before .before in
+    let made = c .before .before .before .before .before .before .before .before .before .before in
     omega (arith, made .next .kept .1 .1 .1 .1 .1 .1 .1 .1 .1 .0, made .before .before .before .before .loop .inv .0 .kept)
 
 returns-2 : tie.Need-returns-2 Inv-loop μ-loop
 returns-2 c = search needs
 
-slice-reshare-prefix-write-all : tie.Need-slice-reshare-prefix-write-all Inv-loop μ-loop
-slice-reshare-prefix-write-all c = search needs
-
-slice-aggregate-write-all : tie.Need-slice-aggregate-write-all Inv-loop μ-loop
-slice-aggregate-write-all c = simp length-take (search needs)
-
-write-all-requires : tie.Need-write-all-requires Inv-loop μ-loop
-write-all-requires c κs = search needs
-
 same-length-5 : tie.Need-same-length-5 Inv-loop μ-loop
 same-length-5 c =
-    let made = c .before .before .before .before .before .before .before .before .before .before .before .before in
+    let made = c .before .before .before .before .before .before .before .before .before .before .before in
     omega (arith, made .before .before .before .before .before .before .before .before .before .before .pre .1 .0, made .next .kept .0, made .before .before .before .before .loop .inv .0 .going .sized)
 
 same-length-6 : tie.Need-same-length-6 Inv-loop μ-loop
 same-length-6 c =
-    let made = c .before .before .before .before .before .before .before .before .before .before .before .before in
+    let made = c .before .before .before .before .before .before .before .before .before .before .before in
     omega (arith, made .next .kept .1 .1 .1 .1 .1 .1 .1 .1 .1 .0, made .before .before .before .before .loop .inv .0 .kept)
 
 returns-3 : tie.Need-returns-3 Inv-loop μ-loop
 returns-3 c = search needs
+
+write-at-requires : tie.Need-write-at-requires Inv-loop μ-loop
+write-at-requires c κs = search needs
 
 same-length-7 : tie.Need-same-length-7 Inv-loop μ-loop
 same-length-7 c =
@@ -107,12 +107,12 @@ returns-4 c = search needs
 loop-less : tie.Need-loop-less Inv-loop μ-loop
 loop-less c =
     let made = c .before .before .before .before .before .before .before .before .before .before .before .before .before .before in
-    stepping-less (made .before .before .before .before .loop .inv .0) (made .before .before .before .before .before .before .before .before .before .before .pre .0) (made .before .before .before .before .before .before .before .before .before .before .pre .1 .1 .0) (made .next .ensures .0) (c .before .if3 .left)
+    stepping-less (made .before .before .before .before .loop .inv .0) (made .before .before .before .before .before .before .before .before .before .before .pre .0) (made .before .before .before .before .before .before .before .before .before .before .pre .1 .1 .0) (made .next .ensures .0) (c .before .before .before .if2 .left)
 
 loop-again : tie.Need-loop-again Inv-loop μ-loop
 loop-again c =
     let made = c .before .before .before .before .before .before .before .before .before .before .before .before .before .before in
-    (stepping-again (made .before .before .before .before .loop .inv .0) (made .before .before .before .before .before .before .before .before .before .before .pre .0) (made .before .before .before .before .before .before .before .before .before .before .pre .1 .1 .0) (made .next .ensures .0) (c .before .if3 .left) (made .next .kept .1 .1 .1 .1 .1 .1 .1 .1 .1 .0), made .next .ensures .1)
+    (stepping-again (made .before .before .before .before .loop .inv .0) (made .before .before .before .before .before .before .before .before .before .before .pre .0) (made .before .before .before .before .before .before .before .before .before .before .pre .1 .1 .0) (made .next .ensures .0) (c .before .before .before .if2 .left) (made .next .kept .1 .1 .1 .1 .1 .1 .1 .1 .1 .0), made .next .ensures .1)
 
 pub write-steps-spec : {M : Type 1} → statement M
 write-steps-spec =
@@ -129,16 +129,16 @@ write-steps-spec =
     same-length
     same-length-2
     returns
-    write-page-requires
+    slice-reshare-prefix-write-step
+    slice-aggregate-write-step
+    write-step-requires
     same-length-3
     same-length-4
     returns-2
-    slice-reshare-prefix-write-all
-    slice-aggregate-write-all
-    write-all-requires
     same-length-5
     same-length-6
     returns-3
+    write-at-requires
     same-length-7
     same-length-8
     returns-4
