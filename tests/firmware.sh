@@ -35,23 +35,26 @@ check "it says where the archive is" grep -qxF "archive: $root/target/librovinus
 check "it says where the header is" grep -qxF "header: $root/include/rovinuset.h" "$room/told"
 (cd "$room" && "$command" archive -o mine.a >/dev/null)
 check "-o FILE" cmp target/staticlib/libdoor.a "$room/mine.a"
-check "-o in no folder" unbuilt "not written: $room/none/mine.a" archive -o "$room/none/mine.a"
-check "-o a folder" unbuilt "not a file to write: $room" archive -o "$room"
-check "-o nothing" unbuilt "not a file to write: " archive -o ""
+"$command" archive -o - >"$room/mine.a" 2>"$room/said"
+check "-o -" cmp target/staticlib/libdoor.a "$room/mine.a"
+check "its lines are on standard error then" grep -qx "archive: -" "$room/said"
+check "-o in no folder" unbuilt "no such folder: $room/none" archive -o "$room/none/mine.a"
+check "-o a folder" unbuilt "a folder, not a file: $room" archive -o "$room"
+check "-o nothing" unbuilt "archive takes -o once, and the file to write behind it" archive -o ""
 check "another word" unbuilt "archive takes -o and a file" archive mine.a
 check "bench with a word" unbuilt "bench takes no words" bench mine
 
 # ---- where it cannot be built: a copy of the project without its crates, and a path without the kit
 mkdir "$room/tools" "$room/copy" "$room/copy/crates"
-for tool in bash cat dirname find readlink; do ln -s "$(type -P "$tool")" "$room/tools/"; done
-cp -r rovinuset tests crates.txt "$room/copy/"
+for tool in bash dirname readlink; do ln -s "$(type -P "$tool")" "$room/tools/"; done
+cp -r rovinuset tools tests crates.txt "$room/copy/"
 command=$room/copy/rovinuset path=$room/tools
 check "no kit" unbuilt "the Rattle kit (rt) is not here" archive
 path=$PATH
 : >"$room/copy/target"
-check "no place to build" unbuilt "no permission to write: $room/copy/target" archive
+check "no place to build" unbuilt "door cannot be proved and built: no permission to write in: $room/copy/target" archive
 rm "$room/copy/target"
-check "nothing to prove" unbuilt "door was not built: target/rovinuset.log says why" archive
+check "nothing to prove" unbuilt "door was not built: $room/copy/target/rovinuset.log says why" archive
 
 # ---- C, the link line as it is printed, and C++
 cat >"$room/job.c" <<'C'

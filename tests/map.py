@@ -197,9 +197,9 @@ def methods():
 
 
 def words():
-    """The words of ./rovinuset: those by which its last choice calls a function."""
-    choice = text("rovinuset").rpartition('case "${1-}" in')[2]
-    return {"./rovinuset " + word for line in re.findall(r"^([a-z]+(?: \| [a-z]+)*)\)$", choice, re.M) for word in line.split(" | ")}
+    """The words of ./rovinuset: those by which tools/rovinuset.py calls a function."""
+    choice = re.search(r"^COMMANDS = \{\n(.*?)^\}", text("tools/rovinuset.py"), re.M | re.S)
+    return {"./rovinuset " + word for word in re.findall(r'^    "([a-z]+)": ', choice[1] if choice else "", re.M)}
 
 
 def calls():
@@ -239,8 +239,8 @@ def lacking(entry, path):
     crate, function, name = entry.partition("::")
     file, definition, names = entry.partition(": ")
     if function:
-        known = trace.functions_in(path) | set(re.findall(r"^(\w+)\(\) \{", text(path), re.M))
-        return [] if name in known and (path == crate or path.startswith("crates/%s/src/" % crate)) else [name]
+        known = trace.functions_in(path) | set(re.findall(r"^def (\w+)\(", text(path), re.M))
+        return [] if name in known and (path == "tools/%s.py" % crate or path.startswith("crates/%s/src/" % crate)) else [name]
     if definition:
         known = trace.declared_in(path) if os.path.basename(path) == file + ".antt" else ()
         return [name for name in names.split(", ") if name not in known]

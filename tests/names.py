@@ -138,8 +138,9 @@ NAMES = everything()
 
 def is_function(span):
     crate, name = span.split("::")
-    if crate == "rovinuset":
-        return re.search(r"^%s\(\) \{" % name, text("rovinuset"), re.M)
+    tool = "tools/%s.py" % crate
+    if tool in FILES and re.search(r"^def %s\(" % name, text(tool), re.M):
+        return True
     return crate in CRATES and re.search(r"\bfn %s\b" % name, sources(crate))
 
 

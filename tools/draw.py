@@ -1,17 +1,15 @@
-#!/usr/bin/env python3
 """Draws a job: a picture for each page, and its findings in words.
 
-    draw.py FOLDER NAME WIDTH HEIGHT COMMAND..    the job is standard input, COMMAND runs the proved program `pages`
-
-The folder always tells of one job. Pictures (page-1.png, ..) and findings.txt of an earlier job are removed first; other files stay. If
-something cannot be written, what was written of this job is removed too. findings.txt comes last. A refused job has findings.txt alone, one that
-cannot be read has nothing. Exit status: 0 clean, 3 findings, 2 refused, not read or not written.
+The folder always tells of one job. What is drawn is made in a hidden folder of its own and takes the place of an earlier drawing (page-1.png, .. and
+findings.txt) when it is whole; a job that is refused or cannot be read, or a drawing that fails, leaves the earlier one as it was. Other files stay.
 """
 
+import fcntl
 import hashlib
 import os
 import re
-import sys
+import stat
+from contextlib import closing
 
 import ending
 import files
@@ -19,80 +17,194 @@ import findings
 import pages
 import png
 import progress
+import stopping
+import telling
 
-PICTURE = re.compile(r"page-[1-9][0-9]*\.png(\.part)?|findings\.txt(\.part)?")
-
-
-def clear(folder):
-    for name in os.listdir(folder):
-        if PICTURE.fullmatch(name):
-            files.remove(os.path.join(folder, name))
-
-
-def draw_pages(folder, width, height, job, command, lines):
-    """Writes the pictures. Gives the SHA-256 of each page as PBM."""
-    digests, blank = [], bytes(width // 8 * height)
-    blank_picture = None
-    for page in pages.pages(command, width, height, job, lines):
-        if page == blank:  # a job may have a million of them
-            blank_picture = blank_picture or png.png(width, height, page)
-        picture = blank_picture if page == blank else png.png(width, height, page)
-        digests.append(pages.digest(width, height, page))
-        files.write_whole(os.path.join(folder, f"page-{len(digests)}.png"), picture)
-    return digests
+TAKES = {"-o": "where to write", "--pages": "a number of pages or a range, as 20 or 3-7,"}
+TRIES = 100
+PICTURES = 1000  # drawn if nothing else is said; all are counted
+MINE = re.compile(r"page-[1-9][0-9]*\.png|findings\.txt")
+RANGE = re.compile(r"(?:([1-9][0-9]{0,8})-)?([1-9][0-9]{0,8})")
 
 
-def where(lines, index):
-    page = lines.page_of(index)
-    if page <= len(lines.dots):
-        return f"page {page}"
-    return "after the last page" if len(lines.dots) else "no page"
+def wanted_pages(call):
+    """The first and the last page to be drawn."""
+    said = call.options.get("--pages", str(PICTURES))
+    found = RANGE.fullmatch(said)
+    first, last = (int(found[1] or 1), int(found[2])) if found else (1, 0)
+    if first > last:
+        raise ending.Wrong(f"not a number of pages, nor a range: {files.printed(said)}")
+    return first, last
 
 
-def told(name, width, height, job, lines, digests):
-    """findings.txt, line by line: the job, its pages, its findings, its end; then the lines as the program gave them."""
-    yield f"Job: {name}"
-    if lines.refused is not None:
-        yield f"REFUSED, number {lines.refused}: {findings.REFUSALS[lines.refused]}. Nothing was drawn."
-        return
-    x, y, depth, found = lines.end
-    yield f"Bytes: {len(job)}"
-    yield f"SHA-256 of the job: {hashlib.sha256(job).hexdigest()}"
-    yield f"Page: {width} by {height} dots, 300 an inch"
-    yield ""
-    yield f"Pages: {len(digests)}"
-    for number, (dots, digest) in enumerate(zip(lines.dots, digests), 1):
-        yield f"page-{number}.png: {dots} dots, SHA-256 of the page as PBM {digest.hex()}"
-    yield ""
-    yield f"Findings: {found}"
-    for index, (place, number) in enumerate(zip(lines.places, lines.numbers)):
-        said, _, done = findings.FINDINGS[number]
-        yield f"place {place}, {where(lines, index)}: finding {number}, {said}. {done}"
-    yield ""
-    yield f"End: x {x}, y {y} (1/7200 inch), stack depth {depth}, findings {found}"
-    yield ""
-    yield "The program's own lines:"
-    yield from findings.raw(width, height, lines)
+class Folder:
+    """The folder of a drawing. It is locked: nobody else draws in it as long as this command goes on."""
+
+    def __init__(self, path, call):
+        self.path, self.call = path, call
+        self.number = self.locked()
+        self.check()
+        self.room, _ = files.make_beside(path, lambda name: os.mkdir(name, 0o700))
+
+    def locked(self):
+        for _ in range(TRIES):
+            make_folders(self.path)
+            try:
+                number = os.open(self.path, os.O_RDONLY | os.O_DIRECTORY | os.O_CLOEXEC)
+                fcntl.flock(number, fcntl.LOCK_EX | fcntl.LOCK_NB)
+                if os.path.samestat(os.fstat(number), os.stat(self.path)):
+                    return number
+            except BlockingIOError:
+                raise ending.Wrong(f"draw: another draw is writing in: {files.printed(self.path)}") from None
+            except FileNotFoundError:
+                pass
+            # Another made it, failed and removed it: once more.
+        raise ending.Wrong(f"the folder cannot be made: {files.printed(self.path)}")
+
+    def earlier(self):
+        """The files of an earlier drawing, findings.txt first."""
+        return sorted(name for name in os.listdir(self.path) if MINE.fullmatch(name))
+
+    def check(self):
+        for name in self.earlier():
+            path = os.path.join(self.path, name)
+            if not stat.S_ISREG(os.lstat(path).st_mode) and not os.path.islink(path):
+                raise ending.Wrong(f"draw: not a file, where the drawing would be written: {files.printed(path)}")
+            if self.call.is_job(path):
+                raise ending.Wrong(f"draw: the job lies where the drawing would be written: {files.printed(path)}")
+
+    def write(self, name, data):
+        files.write_new(os.path.join(self.room, name), data)
+
+    def replace(self):
+        """The new drawing in the place of the earlier one. findings.txt goes first and comes last, and no picture comes before the last has gone: at no moment
+        are there files of both. Where one cannot be moved, all are moved back."""
+        earlier, drawn, moved = os.path.join(self.room, "earlier"), sorted(os.listdir(self.room), reverse=True), []
+        with stopping.held():
+            try:
+                os.mkdir(earlier)
+                for name in self.earlier():
+                    move(self.path, earlier, name, moved)
+                for name in drawn:
+                    move(self.room, self.path, name, moved)
+            except OSError:
+                for home, there, name in reversed(moved):
+                    os.rename(os.path.join(there, name), os.path.join(home, name))
+                raise
+            files.UNUSED.clear()
+            files.drop(self.room)
 
 
-def draw(folder, name, width, height, command):
-    clear(folder)  # first: the pictures of an earlier job are not to be taken for those of one that cannot be read
-    job, lines = pages.read_job(), findings.Lines()
-    try:
-        with progress.Progress(lambda: f"{len(lines.dots)} pages, {len(lines.places)} findings so far"):
-            digests = draw_pages(folder, width, height, job, command, lines)
-            text = "\n".join(told(name, width, height, job, lines, digests)) + "\n"
-            files.write_whole(os.path.join(folder, "findings.txt"), text.encode("utf-8", "replace"))
-    except BaseException:
-        clear(folder)
-        raise
-    return ending.told_end("draw", lines, folder, sys.stdout)
+def move(home, there, name, moved):
+    os.rename(os.path.join(home, name), os.path.join(there, name))
+    moved.append((home, there, name))
 
 
-def main(words):
-    folder, name, width, height, *command = words
-    return draw(folder, files.shown(name), int(width), int(height), command)
+def make_folders(path):
+    """The folder and those above it that are not there."""
+    missing, above = [], path
+    while above and not os.path.lexists(above):
+        missing.append(above)
+        above = os.path.dirname(above)
+    for folder in reversed(missing):
+        try:
+            with stopping.held():
+                os.mkdir(folder)
+                files.UNUSED.append(folder)
+        except FileExistsError:
+            pass  # another was faster
+        except OSError as error:
+            raise ending.Wrong(f"the folder cannot be made: {files.printed(path)}: {error.strerror}") from error
 
 
-if __name__ == "__main__":
-    sys.exit(ending.ended("draw", main, sys.argv[1:]))
+def check_goal(goal):
+    if goal == "-":
+        raise ending.Wrong("draw writes a folder, not standard output (a folder of that name is ./-)")
+    if os.path.lexists(goal) and not os.path.isdir(goal):
+        raise ending.Wrong(f"not a folder: {files.printed(goal)}")
+    if os.path.isdir(goal) and not os.access(goal, os.R_OK | os.W_OK | os.X_OK):
+        raise ending.Wrong(f"no permission to write in: {files.printed(goal)}")
+
+
+class Drawing:
+    """What is drawn of a job: its lines, and the SHA-256 of each page that has a picture, as PBM."""
+
+    def __init__(self, call, programs):
+        self.call, self.programs = call, programs
+        self.first, self.last = wanted_pages(call)
+        self.lines, self.digests, self.letters = findings.Lines(), {}, None
+
+    def draw(self, folder):
+        """Writes the pictures. Behind the last that is wanted the program is stopped, and run again for its lines alone: that is fast."""
+        width, height, dots, blank_picture = self.call.width, self.call.height, [], None
+        with closing(self.programs.pages(self.lines)) as run:
+            for number, (page, count) in enumerate(run, 1):
+                if number > self.last:
+                    break
+                dots.append(count)
+                if number < self.first:
+                    continue
+                picture = blank_picture if count == 0 and blank_picture else png.png(width, height, page)
+                blank_picture = blank_picture if count else picture
+                folder.write(f"page-{number}.png", picture)
+                self.digests[number] = pages.digest(width, height, page)
+        if not self.lines.whole():
+            self.lines = findings.Lines()
+            self.programs.take(self.lines)
+        pages.agreed(self.lines, dots)
+
+    def left_out(self):
+        """Which pages have a picture, if not all."""
+        count, drawn = len(self.lines.dots), sorted(self.digests)
+        if len(drawn) < count:
+            which = f"pages {drawn[0]:,} to {drawn[-1]:,} of {count:,}" if drawn else f"none of {findings.counted(count, 'page', 'pages', ',')}"
+            yield f"drawn: {which}; --pages N or A-B chooses others"
+
+    def where(self, index):
+        page, count = self.lines.page_of(index), len(self.lines.dots)
+        return f"page {page}" if page <= count else "after the last page" if count else "no page"
+
+    def page(self, number, dots):
+        if number not in self.digests:
+            return f"page {number}: {dots} dots, not drawn"
+        return f"page-{number}.png: {dots} dots, SHA-256 of the page as PBM {self.digests[number].hex()}"
+
+    def told(self):
+        """findings.txt, line by line: the job, its pages, its findings, its end; then the lines as the program gave them."""
+        call, lines = self.call, self.lines
+        x, y, depth, found = lines.end
+        yield f"Job: {files.printed(call.name)}"
+        yield f"Bytes: {len(call.job)}"
+        yield f"SHA-256 of the job: {hashlib.sha256(call.job).hexdigest()}"
+        yield f"Page: {call.width} by {call.height} dots, 300 an inch{call.page()}"
+        yield from (f"Note: {line}" for line in (*telling.of_job(call, lines, self.letters), *self.left_out()))
+        yield ""
+        yield f"Pages: {len(lines.dots)}"
+        yield from (self.page(number, dots) for number, dots in enumerate(lines.dots, 1))
+        yield ""
+        yield f"Findings: {found}"
+        for index, (place, number) in enumerate(zip(lines.places, lines.numbers)):
+            said, _, done = findings.FINDINGS[number]
+            yield f"place {place}, {self.where(index)}: finding {number}, {said}. {done}"
+        yield ""
+        yield f"End: x {x}, y {y} (1/7200 inch), stack depth {depth}, findings {found}"
+        yield ""
+        yield "The program's own lines:"
+        yield from findings.raw(call.width, call.height, lines)
+
+
+def draw(call, programs):
+    drawing = Drawing(call, programs)
+    folder = Folder(call.goal, call)
+    with progress.Progress(lambda: telling.so_far(call, drawing.lines)):
+        drawing.draw(folder)
+        lines = drawing.lines
+        if lines.refused is not None:
+            return ending.told_refusal("draw", lines.refused, findings.REFUSALS[lines.refused])
+        drawing.letters = programs.letters()
+        folder.write("findings.txt", "".join(f"{line}\n" for line in drawing.told()).encode("utf-8", "surrogateescape"))
+        folder.replace()
+    notices = (*telling.of_job(call, lines, drawing.letters), *telling.of_page(call), *drawing.left_out())
+    written = files.printed(call.goal)
+    ending.tell(1, written, telling.summary(lines, notices, written))
+    return lines.status()

@@ -1,41 +1,55 @@
-"""How a tool ends: what it says, and its exit status. That of findings is 3 here: 1 is Python's own, when it fails. rovinuset makes 1 of it."""
+"""How the command ends: its exit status, and what it says."""
 
-import signal
-import sys
+import os
+import select
 
 import files
-import findings
-import pages
 
-FINDINGS = 3
+CLEAN, FINDINGS, WRONG = 0, 1, 2  # 1 means findings and nothing else
 
 
-def told_end(word, lines, goal, to):
-    """Says how the job ended and where it is written, a refusal on standard error, and gives the exit status. A failed write is seen at once."""
-    if lines.refused is not None:
-        print(f"rovinuset: {word}: refused, number {lines.refused}: {findings.REFUSALS[lines.refused]}", file=sys.stderr)
-    else:
-        to.write("\n".join(findings.summary(lines)) + f": {goal}\n")
-        to.flush()
-    return FINDINGS if lines.status() == 1 else lines.status()
+class Wrong(Exception):
+    """Ends the command with 2. The text is the line that says why."""
 
 
-def ended(word, main, words):
-    """The exit status of the main function. What goes wrong is one line on standard error, and 2."""
-    signal.signal(signal.SIGTERM, signal.default_int_handler)  # so that what was written in part is removed
-    sys.stdout.reconfigure(errors="replace")  # a folder's name may be any bytes
+class Quiet(Exception):
+    """Ends the command with 2 without a word: who reads its output has had enough."""
+
+
+def write_all(number, data):
+    """All bytes to this descriptor. A failed write is seen, and one that would block is waited for."""
+    left = memoryview(data)
+    while left:
+        try:
+            left = left[os.write(number, left) :]
+        except BlockingIOError:
+            select.select([], [number], [])
+        except BrokenPipeError as error:
+            raise Quiet from error
+
+
+def print_lines(number, lines):
+    write_all(number, "".join(f"{line}\n" for line in lines).encode("utf-8", "surrogateescape"))
+
+
+def notice(text):
+    """A line on standard error, if it can be written."""
     try:
-        return main(words)
-    except pages.Unread as error:
-        what = f"the job could not be read: {error}"
+        print_lines(2, [f"rovinuset: {text}"])
+    except (OSError, Quiet):
+        pass
+
+
+def tell(number, written, lines):
+    """The summary of what is written already. It is not to be taken for unwritten if the summary cannot be printed."""
+    try:
+        print_lines(number, lines)
     except OSError as error:
-        what = f"not written: {files.reason(error)}"
-    except pages.Broken as error:
-        what = f"not written: the program broke off: {error}"
-    except KeyboardInterrupt:
-        what = "not written: stopped"
-    except MemoryError:
-        what = "not written: not enough memory"
-    print(f"rovinuset: {word}: {what}", file=sys.stderr)
-    sys.stdout = None  # what could not be printed is not tried again
-    return 2
+        raise Wrong(f"{written} is written, its summary is not: {files.reason(error)}") from error
+    except KeyboardInterrupt as error:
+        raise Wrong(f"{written} is written, its summary is not: stopped") from error
+
+
+def told_refusal(word, number, words):
+    notice(f"{word}: refused, number {number}: {words}")
+    return WRONG

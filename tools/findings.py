@@ -47,18 +47,20 @@ def counted(count, one, more, form=""):
 
 
 class Lines:
-    """What the program `pages` said, line by line: FAULT with its MARK, PAGE, END and REFUSED. A job has up to a million findings, so arrays."""
+    """What the program `pages` said, line by line: FAULT with its MARK, PAGE and maybe AT, END and REFUSED. A job has up to a million findings, so arrays."""
 
-    def __init__(self):
+    def __init__(self, marked=True):
+        self.marked = marked  # the report has no marks
         self.places, self.numbers = array("L"), bytearray()
         self.x, self.y = array("L"), array("L")  # the cursor as the finding's item began
         self.dots, self.found_before = array("L"), array("L")  # for each page: its dots, findings up to its end
         self.end = self.refused = self.strange = None  # strange: the first line of another form, or out of place
+        self.place = 0  # how far in the job it is
 
     def take(self, line):
         word, *fields = line.rstrip("\n").split("\t")
         numbers = [int(field) for field in fields if field.isdigit()]
-        marks = len(self.x) < len(self.places)  # behind FAULT its MARK comes, and nothing else
+        marks = self.marked and len(self.x) < len(self.places)  # behind FAULT its MARK comes, and nothing else
         if marks != (word == "MARK") or not self.taken((word, len(fields), len(numbers)), numbers):
             self.strange = line.rstrip("\n") if self.strange is None else self.strange
 
@@ -67,12 +69,15 @@ class Lines:
         if form == ("FAULT", 2, 2) and numbers[1] in FINDINGS:
             self.places.append(numbers[0])
             self.numbers.append(numbers[1])
+            self.place = numbers[0]
         elif form == ("MARK", 4, 4) and numbers[:2] == [self.places[-1], self.numbers[-1]]:
             self.x.append(numbers[2])
             self.y.append(numbers[3])
         elif form == ("PAGE", 2, 2) and numbers[0] == len(self.dots) + 1:
             self.dots.append(numbers[1])
             self.found_before.append(len(self.places))
+        elif form == ("AT", 1, 1):
+            self.place = numbers[0]
         elif form == ("END", 4, 4):
             self.end = tuple(numbers)
         elif form == ("REFUSED", 1, 1) and numbers[0] in REFUSALS:
@@ -83,7 +88,7 @@ class Lines:
 
     def whole(self):
         """Whether the program came to its end, counts as many findings as it named, and marked each."""
-        if self.strange is not None or len(self.x) < len(self.places):
+        if self.strange is not None or (self.marked and len(self.x) < len(self.places)):
             return False
         return self.refused is not None or (self.end is not None and self.end[3] == len(self.places))
 
@@ -111,6 +116,9 @@ class Lines:
 def raw(width, height, lines):
     """The lines as the program gave them, in their order."""
     yield f"SIZE\t{width}\t{height}"
+    if lines.refused is not None:
+        yield f"REFUSED\t{lines.refused}"
+        return
     start = 0
     for number, (dots, before) in enumerate(zip(lines.dots, lines.found_before), 1):
         yield from faults(lines, start, before)

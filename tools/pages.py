@@ -1,16 +1,22 @@
-"""The proved program `pages`, run on a job: its pages one after the other, and its lines."""
+"""The proved programs `pages` and `plain`, run on a job: its pages one after the other, its lines, its plain stream."""
 
 import hashlib
-import io
 import os
+import re
 import subprocess
 import threading
 
 import files
 import findings
+import programs
+import progress
 
 LONGEST = 1048576
 BITS = bytes(bin(byte).count("1") for byte in range(256))
+# A plain command: two bytes, or a sequence of one command, whose value may count payload.
+COMMAND = re.compile(rb"\x1b(?:[&*][a-z][+-]?([0-9]*)[0-9.]*[A-Z]|[0-~])")
+PAYLOAD = (b"*b", b"W"), (b"&p", b"X")
+NOT_TEXT = bytes((*range(33), 127))  # codes, and the space, which is no letter
 
 
 class Broken(Exception):
@@ -21,12 +27,12 @@ class Unread(Exception):
     """The job could not be read to its end."""
 
 
-def read_job():
-    """Standard input to its end; of a longer job than allowed a byte more than allowed, so that the program refuses it. Read by the system's own
-    call: Python's streams take a read that would block for the end."""
+def read_job(number):
+    """A job to its end; of a longer one than allowed a byte more than allowed, so that the program refuses it. Read by the system's own call:
+    Python's streams take a read that would block for the end."""
     parts, left = [], LONGEST + 1
     try:
-        while part := os.read(0, left):
+        while part := os.read(number, left):
             parts.append(part)
             left -= len(part)
     except OSError as error:
@@ -64,43 +70,99 @@ def from_pipe(pipe, header, size):
         yield page
 
 
-def pages(command, width, height, job, lines):
-    """Yields each page's bytes as the program hands it over. Its lines go to `lines`, which are whole when the last page was given."""
-    process = subprocess.Popen(
-        [*command, str(width), str(height)], stdin=subprocess.PIPE, stdout=subprocess.PIPE, stderr=subprocess.PIPE
-    )
-    beside = [
-        threading.Thread(target=feed, args=(process.stdin, job), daemon=True),
-        threading.Thread(target=listen, args=(process.stderr, lines), daemon=True),
-    ]
-    for thread in beside:
-        thread.start()
-    dots = []
-    try:
-        for page in from_pipe(process.stdout, b"P4\n%d %d\n" % (width, height), width // 8 * height):
-            dots.append(sum(page.translate(BITS)))
-            yield page
-    except BaseException:
-        process.kill()
-        raise
-    finally:
-        process.stdout.close()
-        process.wait()
-        for thread in beside:
-            thread.join()
+def agreed(lines, dots):
+    """That the program came to its end, and that these pages, the first ones, have the dots that its lines say."""
     if not lines.whole():
         raise Broken(lines.strange or "no last line")
-    if dots != list(lines.dots):
+    if dots != list(lines.dots[: len(dots)]):
         raise Broken("its pages have other dots than its lines say")
 
 
-def lines_of(command, width, height, job):
-    """The lines alone; the pages are thrown away."""
-    done = subprocess.run(
-        [*command, str(width), str(height)], input=job, stdout=subprocess.DEVNULL, stderr=subprocess.PIPE
-    )
-    lines = findings.Lines()
-    listen(io.BytesIO(done.stderr), lines)
-    if not lines.whole():
-        raise Broken(lines.strange or "no last line")
-    return lines
+class Programs:
+    """The two programs on one job and one page."""
+
+    def __init__(self, width, height, job, drawing, translating):
+        self.width, self.height, self.job = width, height, job
+        self.drawing, self.translating = drawing, translating
+        self.measure = [str(width), str(height)]
+
+    def pages(self, lines):
+        """Yields each page's bytes and dots as the program hands it over. Its lines go to `lines`, which are whole when the last page was given."""
+        pipe, dots = subprocess.PIPE, []
+        blank = bytes(self.width // 8 * self.height)
+        with programs.running(self.words(), stdin=pipe, stdout=pipe, stderr=pipe) as process:
+            beside = [
+                threading.Thread(target=feed, args=(process.stdin, self.job), daemon=True),
+                threading.Thread(target=listen, args=(process.stderr, lines), daemon=True),
+            ]
+            for thread in beside:
+                thread.start()
+            for page in from_pipe(process.stdout, b"P4\n%d %d\n" % (self.width, self.height), len(blank)):
+                dots.append(0 if page == blank else sum(page.translate(BITS)))  # a job may have a million blank ones
+                yield page, dots[-1]
+            for thread in beside:
+                thread.join()
+        agreed(lines, dots)
+        if len(dots) < len(lines.dots):
+            raise Broken("its lines have more pages than it gave")
+
+    def words(self):
+        """On a terminal the program says after each page how far it is."""
+        return [*self.drawing, *self.measure, *(["1"] if progress.on_terminal() else [])]
+
+    def take(self, lines, job=None):
+        """The lines alone, of the job or of another; the pages are thrown away."""
+        with programs.running(self.words(), stdin=subprocess.PIPE, stdout=subprocess.DEVNULL, stderr=subprocess.PIPE) as process:
+            thread = threading.Thread(target=feed, args=(process.stdin, self.job if job is None else job), daemon=True)
+            thread.start()
+            listen(process.stderr, lines)
+            thread.join()
+        agreed(lines, [])
+        return lines
+
+    def plain(self):
+        """The plain stream, and the number by which it is refused: None, or 15 where it is too long."""
+        refusal, said = findings.Lines(), []
+        with programs.running([*self.translating, *self.measure], stdin=subprocess.PIPE, stdout=subprocess.PIPE, stderr=subprocess.PIPE) as process:
+            threads = [
+                threading.Thread(target=feed, args=(process.stdin, self.job), daemon=True),
+                threading.Thread(target=lambda: said.extend(process.stderr), daemon=True),
+            ]
+            for thread in threads:
+                thread.start()
+            stream = process.stdout.read()
+            for thread in threads:
+                thread.join()
+        for line in said:
+            refusal.take(line.decode("ascii", "replace"))
+        if process.returncode or refusal.strange is not None or (said and refusal.refused is None):
+            raise Broken(refusal.strange or "no last line")
+        return stream, refusal.refused
+
+    def letters(self):
+        """How many text bytes the job has that are no space, in payload of &p#X too; None where the plain stream, which has just these, is too long."""
+        stream, refused = self.plain()
+        return None if refused else letters_in(stream)
+
+
+def letters_in(stream):
+    """The text bytes of a plain stream: what is no command, and the payload of &p#X."""
+    count, at = 0, 0
+    while True:
+        escape = stream.find(b"\x1b", at)
+        count += count_letters(stream[at : escape if escape >= 0 else len(stream)])
+        if escape < 0:
+            return count
+        command = COMMAND.match(stream, escape)
+        if command is None:
+            raise Broken("its plain stream has another form")
+        at = command.end()
+        name = (command[0][1:3], command[0][-1:])
+        if name in PAYLOAD:
+            end = at + int(command[1] or 0)
+            count += count_letters(stream[at:end]) if name == (b"&p", b"X") else 0
+            at = end
+
+
+def count_letters(part):
+    return len(part.translate(None, NOT_TEXT))

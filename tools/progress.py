@@ -1,7 +1,11 @@
-"""A line of progress for long jobs."""
+"""A line of progress for what takes long."""
 
 import sys
 import threading
+
+
+def on_terminal():
+    return sys.stderr is not None and sys.stderr.isatty()
 
 
 class Progress:
@@ -12,7 +16,7 @@ class Progress:
         self.thread = threading.Thread(target=self.run, daemon=True)
 
     def __enter__(self):
-        if sys.stderr is not None and sys.stderr.isatty():
+        if on_terminal():
             self.thread.start()
         return self
 
@@ -22,6 +26,12 @@ class Progress:
             self.thread.join()
 
     def run(self):
+        try:
+            self.say_on()
+        except OSError:
+            pass  # the terminal is gone
+
+    def say_on(self):
         pause = 1.0
         while not self.over.wait(pause):
             self.say(self.text())

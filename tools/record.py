@@ -1,14 +1,10 @@
-#!/usr/bin/env python3
 """Writes the record of a job: one HTML page with everything in it, for the laboratory's file. The same job gives the same record.
 
-    record.py FILE NAME WIDTH HEIGHT COMMAND..    the job is standard input, COMMAND runs the proved program `pages`
-
-A refused job has a record too, which says so; one that cannot be read has none. Exit status: 0 clean, 3 findings, 2 refused, not read or not written.
+A refused job has a record too, which says so; one that cannot be read has none.
 """
 
 import hashlib
 import os
-import sys
 from collections import Counter
 from contextlib import closing
 
@@ -19,9 +15,11 @@ import pages
 import png
 import progress
 import recordhtml
+import telling
+from programs import ROOT
 
-ROOT = os.path.dirname(os.path.dirname(os.path.abspath(__file__)))
-# What a record holds at most. What it leaves out, it says.
+TAKES = {"-o": "where to write", "--all": ""}
+# What a record holds at most, if not all is asked for. What it leaves out, it says.
 PICTURES = 40
 LISTED = 500  # findings in the table, the first ones
 ROWS_LISTED = 2000  # and damaged rows, the first ones
@@ -33,21 +31,27 @@ ROOM = {"fit": 1050, "narrow": 330}
 class Facts:
     """All that the record says of a job."""
 
-    def __init__(self, name, width, height, job, command):
-        self.name, self.width, self.height, self.job, self.command = name, width, height, job, command
+    def __init__(self, call, programs):
+        self.name, self.width, self.height, self.job = files.shown(call.name), call.width, call.height, call.job
+        self.call, self.programs, self.all = call, programs, "--all" in call.options
         self.version, self.sources = version()
-        self.lines = findings.Lines()
+        self.lines, self.letters = findings.Lines(), None
         self.digests, self.all_pages = [], hashlib.sha256()
         self.damaged = Counter()  # damaged rows by page number
         self.pictures = {}  # by page number: for each use, what it is reduced by and the PNG
         self.listed = set()  # findings in the table
         self.last_page_ended = None  # None: not known
 
-    def run(self, job):
-        return pages.lines_of(self.command, self.width, self.height, job)
+    def notices(self):
+        return () if self.lines.refused is not None else tuple(telling.of_job(self.call, self.lines, self.letters))
 
-    def pages(self, lines):
-        return pages.pages(self.command, self.width, self.height, self.job, lines)
+    def left_out(self):
+        """What the record has no room for, if not all is asked for."""
+        pages_there, found = len(self.digests), len(self.lines.places)
+        if len(self.pictures) < pages_there or len(self.listed) < found:
+            shown = f"{len(self.pictures):,} of {findings.counted(pages_there, 'page', 'pages', ',')}"
+            listed = f"{len(self.listed):,} of {findings.counted(found, 'finding', 'findings', ',')}"
+            yield f"the record shows {shown} and lists {listed}: record --all has all"
 
 
 def version():
@@ -70,7 +74,7 @@ def sources():
 
 
 def hash_pages(facts):
-    for page in facts.pages(facts.lines):
+    for page, _ in facts.programs.pages(facts.lines):
         facts.digests.append(pages.digest(facts.width, facts.height, page))
         facts.all_pages.update(page)
 
@@ -87,18 +91,20 @@ def pictures(width, height, page):
 def draw_pages(facts):
     """Pictures of the pages with damaged rows first, then of the others, as many as a record holds. The job is run again for them."""
     facts.damaged.update(facts.lines.page_of(index) for index in facts.lines.damaged())
-    wanted = set(list(dict.fromkeys([*facts.damaged, *range(1, PICTURES + 1)]))[:PICTURES])
+    most = len(facts.digests) if facts.all else PICTURES
+    wanted = set(list(dict.fromkeys([*facts.damaged, *range(1, most + 1)]))[:most])
     wanted &= {*range(1, len(facts.digests) + 1)}
-    with closing(facts.pages(findings.Lines())) as again:
+    with closing(facts.programs.pages(findings.Lines())) as again:
         for number in range(1, max(wanted, default=0) + 1):
-            page = next(again)
+            page, _ = next(again)
             if number in wanted:
                 facts.pictures[number] = pictures(facts.width, facts.height, page)
 
 
 def list_findings(facts):
     """The table has the first findings and the first damaged rows. So of the rows that share a mark the first is in it, if any is."""
-    facts.listed = {*range(min(LISTED, len(facts.lines.places))), *facts.lines.damaged()[:ROWS_LISTED]}
+    found = len(facts.lines.places)
+    facts.listed = {*range(found if facts.all else min(LISTED, found)), *facts.lines.damaged()[:ROWS_LISTED]}
 
 
 def last_page(facts):
@@ -107,7 +113,9 @@ def last_page(facts):
     if lines.numbers[-1:] == b"\1":
         job = job[: lines.places[-1]]  # a command that the end cut off would take the form feed as its own
     if len(job) < pages.LONGEST:
-        facts.last_page_ended = len(facts.run(job + FORM_FEED).dots) > len(lines.dots)
+        longer = findings.Lines()
+        facts.programs.take(longer, job + FORM_FEED)
+        facts.last_page_ended = len(longer.dots) > len(lines.dots)
 
 
 def gathered(facts):
@@ -116,22 +124,16 @@ def gathered(facts):
         draw_pages(facts)
         list_findings(facts)
         last_page(facts)
+        facts.letters = facts.programs.letters()
 
 
-def so_far(facts):
-    return f"{len(facts.digests)} pages, {len(facts.lines.places)} findings so far"
-
-
-def main(words):
-    path, name, width, height, *command = words
-    job = pages.read_job()
-    facts = Facts(files.shown(name), int(width), int(height), job, command)
-    with progress.Progress(lambda: so_far(facts)):
+def record(call, programs, goal):
+    facts = Facts(call, programs)
+    with progress.Progress(lambda: telling.so_far(call, facts.lines)):
         gathered(facts)
-        text = recordhtml.record(facts)
-        files.write_whole(path, text.encode("utf-8"))
-    return ending.told_end("record", facts.lines, path, sys.stdout)
-
-
-if __name__ == "__main__":
-    sys.exit(ending.ended("record", main, sys.argv[1:]))
+        goal.write(recordhtml.record(facts).encode("utf-8"))
+    lines = facts.lines
+    if lines.refused is not None:
+        return ending.told_refusal("record", lines.refused, findings.REFUSALS[lines.refused])
+    goal.summary(telling.summary(lines, (*facts.notices(), *telling.of_page(call), *facts.left_out()), goal.said()))
+    return lines.status()

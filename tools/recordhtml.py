@@ -28,10 +28,12 @@ def millimetres(units):
     return f"{units / 7200 * 25.4:.1f} mm"
 
 
-def verdict(lines):
+def verdict(lines, job):
     """What a clerk has to know, in a sentence or two."""
     if lines.refused is not None:
         return f"This job was refused, number {lines.refused}: {REFUSALS[lines.refused]}. Nothing was drawn."
+    if not job:
+        return "This job is empty: it has no bytes."
     if not lines.places:
         return "This job has no findings."
     counts = dict(sorted(lines.counts().items(), key=lambda kind: (kind[0] != DAMAGED_ROW, -kind[1])))  # damaged rows first
@@ -44,6 +46,12 @@ def verdict(lines):
     if counts:
         said += f" What has {'another' if damaged else 'a'} finding was left out, and nothing was put in its place."
     return said
+
+
+def notices(facts):
+    """What is no finding and a clerk has to know all the same."""
+    said = (line[0].upper() + line[1:] for line in facts.notices() if facts.job)
+    return "".join(f'<p class="notice">{line}.</p>\n' for line in said)
 
 
 def definitions(pairs):
@@ -75,7 +83,8 @@ def heading(facts):
 
 def page_measure(facts):
     width, height = facts.width, facts.height
-    return f"{width:,} by {height:,} dots, 300 an inch ({millimetres(width * UNITS_A_DOT)} by {millimetres(height * UNITS_A_DOT)})"
+    size = f"{millimetres(width * UNITS_A_DOT)} by {millimetres(height * UNITS_A_DOT)}"
+    return f"{width:,} by {height:,} dots, 300 an inch ({size}){facts.call.page()}"
 
 
 def marks_of(facts, number):
@@ -188,7 +197,7 @@ def all_pages(facts):
     if shown < count:
         said = (
             f"<p>Of {count:,} pages {shown} are shown here: those with damaged rows first, then the others from page 1 on. "
-            "<code>./rovinuset draw</code> draws them all; its findings.txt has the hash of each.</p>\n"
+            "<code>./rovinuset record --all</code> shows them all.</p>\n"
         )
     return said + "".join(page(facts, number) for number in sorted(facts.pictures))
 
@@ -249,7 +258,7 @@ def not_listed(facts):
         return ""
     return (
         f"<p>{left:,} of {found:,} findings are not in this list. "
-        "All of them are in findings.txt, which <code>./rovinuset draw</code> writes.</p>\n"
+        "<code>./rovinuset record --all</code> lists them all, and so does the findings.txt of <code>./rovinuset draw</code>.</p>\n"
     )
 
 
@@ -318,8 +327,8 @@ def record(facts):
 <body>
 <header>
 <h1>Record of {escape(facts.name)}</h1>
-<p class="verdict {kind}">{verdict(facts.lines)}</p>
-{heading(facts)}</header>
+<p class="verdict {kind}">{verdict(facts.lines, facts.job)}</p>
+{notices(facts)}{heading(facts)}</header>
 {body(facts)}</body>
 </html>
 """

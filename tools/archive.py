@@ -1,0 +1,50 @@
+"""The library for firmware: where it and its header are, and how to link them."""
+
+import os
+import platform
+import shlex
+
+import ending
+import files
+import goal
+import programs
+import words
+
+MADE = os.path.join(programs.TARGET, "librovinuset.a")
+
+
+def archive(given):
+    options, others = words.split("archive", given, {"-o": "the file to write"})
+    if others:
+        raise ending.Wrong("archive takes -o and a file, or nothing")
+    door = programs.library("door")
+    programs.can_be_had([door])
+    to = goal.Goal(options["-o"], "archive") if options else None
+    programs.build([door])
+    with open(door.path, "rb") as file:
+        data = file.read()
+    if to is not None:
+        to.write(data)
+        to.summary(told(to.path))
+        return ending.CLEAN
+    if not same(MADE, data):
+        goal.Goal(MADE, "archive").write(data)
+    ending.tell(1, files.printed(MADE), told(MADE))
+    return ending.CLEAN
+
+
+def same(path, data):
+    """Whether the file is there already: who may not write may still ask where it is."""
+    try:
+        with open(path, "rb") as file:
+            return file.read() == data
+    except OSError:
+        return False
+
+
+def told(path):
+    compiler = "cc" if programs.native() else "x86_64-linux-gnu-gcc -static"
+    include = os.path.join(programs.ROOT, "include")
+    yield f"archive: {files.printed(path)}"
+    yield f"header: {files.printed(os.path.join(include, 'rovinuset.h'))}"
+    yield f"link: {compiler} job.c -I{shlex.quote(include)} {shlex.quote(path)}"

@@ -1,0 +1,35 @@
+"""The pages of a job as PBM on standard output, one after the other, and the program's lines on standard error: what other tools read."""
+
+import signal
+import subprocess
+import threading
+
+import ending
+import findings
+import pages
+import programs
+
+TAKES = {}
+
+
+def write_pages(call, command):
+    """The program writes its pages itself; its lines are looked at on their way."""
+    lines = findings.Lines()
+    with programs.running([*command, str(call.width), str(call.height)], stdin=subprocess.PIPE, stdout=1, stderr=subprocess.PIPE) as process:
+        thread = threading.Thread(target=pages.feed, args=(process.stdin, call.job), daemon=True)
+        thread.start()
+        for line in process.stderr:
+            lines.take(line.decode("ascii", "replace"))
+            if lines.strange is None:
+                ending.write_all(2, line)
+        thread.join()
+    if process.returncode == -signal.SIGPIPE:
+        raise ending.Quiet
+    if lines.strange == "UNWRITTEN":
+        raise ending.Wrong("pages: the pages could not be written")
+    pages.agreed(lines, [])
+    if lines.refused is not None:
+        return ending.told_refusal("pages", lines.refused, findings.REFUSALS[lines.refused])
+    if not call.job:
+        ending.notice("the job is empty: it has no bytes")
+    return lines.status()

@@ -1,0 +1,45 @@
+"""The lines of a job: by the paper's report program, or, where a page is given, by the program `pages`, whose pages go nowhere."""
+
+import subprocess
+import threading
+
+import ending
+import findings
+import pages
+import programs
+
+TAKES = {}
+PAPER_LIMIT = "job longer than 65,536 bytes, which is the report's limit where no page is given"
+
+
+def report(call, command):
+    """The paper's report, as its program writes it."""
+    with programs.running(command, stdin=subprocess.PIPE, stdout=subprocess.PIPE, stderr=subprocess.PIPE) as process:
+        thread = threading.Thread(target=pages.feed, args=(process.stdin, call.job), daemon=True)
+        thread.start()
+        text = process.stdout.read()
+        strange = process.stderr.read().decode("ascii", "replace").strip()
+        thread.join()
+    lines = findings.Lines(marked=False)
+    for line in text.decode("ascii", "replace").splitlines():
+        lines.take(line)
+    if strange or not lines.whole():
+        raise pages.Broken(strange or lines.strange or "no last line")
+    ending.write_all(1, text)
+    return told_end(call, lines, {**findings.REFUSALS, 12: PAPER_LIMIT})
+
+
+def report_on(call, run):
+    """The same lines for any page."""
+    lines = findings.Lines()
+    run.take(lines)
+    ending.print_lines(1, (line for line in findings.raw(call.width, call.height, lines) if not line.startswith("MARK")))
+    return told_end(call, lines, findings.REFUSALS)
+
+
+def told_end(call, lines, refusals):
+    if lines.refused is not None:
+        return ending.told_refusal("report", lines.refused, refusals[lines.refused])
+    if not call.job:
+        ending.notice("the job is empty: it has no bytes")
+    return lines.status()

@@ -1,0 +1,124 @@
+"""The words of a call: options, the page's measure, the job."""
+
+import fcntl
+import os
+import re
+import stat
+
+import ending
+import files
+import pages
+
+# At 300 dots an inch: 210 x 297 mm, 8.5 x 11 inches, 8.5 x 14 inches, 148 x 210 mm. A page's width is a multiple of 8: up to the next one.
+PAPERS = {"a4": (2480, 3508), "letter": (2552, 3300), "legal": (2552, 4200), "a5": (1752, 2480)}
+DEFAULT = (2552, 3304)
+NUMBER = re.compile("[0-9]+")
+
+
+def listed(names):
+    return ", ".join(map(files.printed, names))
+
+
+def split(word, words, takes):
+    """The options with their values, and the other words. `takes` says of each option what follows it, or that nothing does."""
+    given, others, left = {}, [], list(words)
+    while left:
+        one = left.pop(0)
+        if one == "--":
+            return given, others + left
+        if one in takes:
+            if one in given or (takes[one] and not (left and left[0])):
+                raise ending.Wrong(f"{word} takes {one} once{takes[one] and f', and {takes[one]} behind it'}")
+            given[one] = left.pop(0) if takes[one] else one
+        elif one.startswith("-") and one != "-":
+            raise ending.Wrong(no_option(one))
+        else:
+            others.append(one)
+    return given, others
+
+
+def no_option(one):
+    if NUMBER.fullmatch(one[1:]):
+        return f"not a number of dots: {one}"
+    return f"no such option: {files.printed(one)} (a file of that name is ./{files.printed(one)})"
+
+
+def dots(text):
+    """A number of dots. All numbers of more digits than a page can have are as one to the program."""
+    if not NUMBER.fullmatch(text):
+        raise ending.Wrong(f"not a number of dots: {files.printed(text)}")
+    digits = text.lstrip("0")
+    return int(digits or "0") if len(digits) <= 5 else 99999
+
+
+def measure(word, others):
+    """Width and height, what they are called, and the words that are left. Nothing is said where nothing was given."""
+    if others and others[0].lower() in PAPERS:
+        return (*PAPERS[others[0].lower()], others[0].lower()), others[1:]
+    if len(others) < 2:
+        return (None, None, None), others
+    if len(others) == 2 and not any(map(NUMBER.fullmatch, others)):
+        raise ending.Wrong(f"{word} takes one job, and here are two: {listed(others)}")
+    return (dots(others[0]), dots(others[1]), ""), others[2:]
+
+
+class Call:
+    """A command on a job: its options, its page, its job, which is opened here and read by `read`."""
+
+    def __init__(self, word, words, takes):
+        self.word = word
+        self.options, others = split(word, words, takes)
+        self.goal = self.options.get("-o")
+        if self.goal is None and takes.get("-o") == "where to write":
+            raise ending.Wrong(f"{word} needs -o and where to write")
+        (self.width, self.height, self.paper), left = measure(word, others)
+        if len(left) > 1:
+            raise ending.Wrong(f"{word} takes the page's measure, or nothing, and one job")
+        self.path = left[0] if left and left[0] != "-" else None
+        self.name = "standard input" if self.path is None else os.path.basename(self.path)
+        self.measured = self.width is not None
+        if not self.measured:
+            self.width, self.height = DEFAULT
+        self.number = self.job = None
+
+    def open(self):
+        self.number = standard_input() if self.path is None else opened(self.path)
+        if stat.S_ISDIR(os.fstat(self.number).st_mode):
+            raise ending.Wrong(f"a directory, not a job: {self.said()}")
+
+    def read(self):
+        self.job = pages.read_job(self.number)
+
+    def said(self):
+        return "standard input" if self.path is None else files.printed(self.path)
+
+    def is_job(self, path):
+        """Whether this name is that of the job's file, or leads there."""
+        try:
+            return any(os.path.samestat(found, os.fstat(self.number)) for found in (os.lstat(path), os.stat(path)))
+        except FileNotFoundError:
+            return False
+
+    def page(self):
+        """What is said of the page's measure, behind its dots."""
+        return ", the default" if not self.measured else f", {self.paper}" if self.paper else ""
+
+
+def opened(path):
+    try:
+        return os.open(path, os.O_RDONLY | os.O_CLOEXEC)
+    except (FileNotFoundError, NotADirectoryError):
+        raise ending.Wrong(f"no such file: {files.printed(path)}") from None
+    except PermissionError:
+        raise ending.Wrong(f"no permission to read: {files.printed(path)}") from None
+    except OSError as error:
+        raise ending.Wrong(f"the job could not be read: {files.reason(error)}") from None
+
+
+def standard_input():
+    """A closed one is open for writing alone (./rovinuset): nothing else may take its place."""
+    if fcntl.fcntl(0, fcntl.F_GETFL) & os.O_ACCMODE == os.O_WRONLY:
+        raise ending.Wrong("the job could not be read: standard input is closed")
+    if os.isatty(0):
+        ending.notice("reading the job from the terminal, up to Ctrl-D")
+    return 0
