@@ -45,14 +45,6 @@ def digest(width, height, page):
     return hashlib.sha256(b"P4\n%d %d\n" % (width, height) + page).digest()
 
 
-def feed(pipe, job):
-    try:
-        pipe.write(job)
-        pipe.close()
-    except OSError:
-        pass  # it refused the job before reading it
-
-
 def listen(pipe, lines):
     for line in pipe:
         lines.take(line.decode("ascii", "replace"))
@@ -88,20 +80,14 @@ class Programs:
 
     def pages(self, lines):
         """Yields each page's bytes and dots as the program hands it over. Its lines go to `lines`, which are whole when the last page was given."""
-        pipe, dots = subprocess.PIPE, []
-        blank = bytes(self.width // 8 * self.height)
-        with programs.running(self.words(), stdin=pipe, stdout=pipe, stderr=pipe) as process:
-            beside = [
-                threading.Thread(target=feed, args=(process.stdin, self.job), daemon=True),
-                threading.Thread(target=listen, args=(process.stderr, lines), daemon=True),
-            ]
-            for thread in beside:
-                thread.start()
+        blank, dots = bytes(self.width // 8 * self.height), []
+        with programs.fed(self.words(), self.job, stdout=subprocess.PIPE, stderr=subprocess.PIPE) as process:
+            beside = threading.Thread(target=listen, args=(process.stderr, lines), daemon=True)
+            beside.start()
             for page in from_pipe(process.stdout, b"P4\n%d %d\n" % (self.width, self.height), len(blank)):
                 dots.append(0 if page == blank else sum(page.translate(BITS)))  # a job may have a million blank ones
                 yield page, dots[-1]
-            for thread in beside:
-                thread.join()
+            beside.join()
         agreed(lines, dots)
         if len(dots) < len(lines.dots):
             raise Broken("its lines have more pages than it gave")
@@ -112,30 +98,17 @@ class Programs:
 
     def take(self, lines, job=None):
         """The lines alone, of the job or of another; the pages are thrown away."""
-        with programs.running(self.words(), stdin=subprocess.PIPE, stdout=subprocess.DEVNULL, stderr=subprocess.PIPE) as process:
-            thread = threading.Thread(target=feed, args=(process.stdin, self.job if job is None else job), daemon=True)
-            thread.start()
+        with programs.fed(self.words(), self.job if job is None else job, stdout=subprocess.DEVNULL, stderr=subprocess.PIPE) as process:
             listen(process.stderr, lines)
-            thread.join()
         agreed(lines, [])
-        return lines
 
     def plain(self):
         """The plain stream, and the number by which it is refused: None, or 15 where it is too long."""
-        refusal, said = findings.Lines(), []
-        with programs.running([*self.translating, *self.measure], stdin=subprocess.PIPE, stdout=subprocess.PIPE, stderr=subprocess.PIPE) as process:
-            threads = [
-                threading.Thread(target=feed, args=(process.stdin, self.job), daemon=True),
-                threading.Thread(target=lambda: said.extend(process.stderr), daemon=True),
-            ]
-            for thread in threads:
-                thread.start()
+        refusal = findings.Lines()
+        with programs.fed([*self.translating, *self.measure], self.job, stdout=subprocess.PIPE, stderr=subprocess.PIPE) as process:
             stream = process.stdout.read()
-            for thread in threads:
-                thread.join()
-        for line in said:
-            refusal.take(line.decode("ascii", "replace"))
-        if process.returncode or refusal.strange is not None or (said and refusal.refused is None):
+            listen(process.stderr, refusal)  # a line at most
+        if process.returncode or refusal.strange is not None:
             raise Broken(refusal.strange or "no last line")
         return stream, refusal.refused
 

@@ -2,7 +2,6 @@
 
 import signal
 import subprocess
-import threading
 
 import ending
 import findings
@@ -15,14 +14,11 @@ TAKES = {}
 def write_pages(call, command):
     """The program writes its pages itself; its lines are looked at on their way."""
     lines = findings.Lines()
-    with programs.running([*command, str(call.width), str(call.height)], stdin=subprocess.PIPE, stdout=1, stderr=subprocess.PIPE) as process:
-        thread = threading.Thread(target=pages.feed, args=(process.stdin, call.job), daemon=True)
-        thread.start()
+    with programs.fed([*command, str(call.width), str(call.height)], call.job, stdout=1, stderr=subprocess.PIPE) as process:
         for line in process.stderr:
             lines.take(line.decode("ascii", "replace"))
             if lines.strange is None:
                 ending.write_all(2, line)
-        thread.join()
     if process.returncode == -signal.SIGPIPE:
         raise ending.Quiet
     if lines.strange == "UNWRITTEN":

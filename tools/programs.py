@@ -7,6 +7,7 @@ import re
 import shutil
 import signal
 import subprocess
+import threading
 import time
 from contextlib import contextmanager
 
@@ -67,8 +68,15 @@ def can_be_built(made):
 
 def build(wanted):
     """Proves and builds what is not there yet. A second command waits for the first, and then finds it done."""
-    if all(made.fresh() for made in wanted):
-        return
+    for made in wanted:
+        if not made.fresh():
+            try:
+                build_alone(made)
+            except OSError as error:
+                raise ending.Wrong(f"{made.name} cannot be proved and built: {files.reason(error)}") from error
+
+
+def build_alone(made):
     os.makedirs(TARGET, exist_ok=True)
     with open(os.path.join(TARGET, "rovinuset.lock"), "wb") as lock:
         try:
@@ -76,9 +84,8 @@ def build(wanted):
         except BlockingIOError:
             ending.notice("waiting for another command, which is proving and building")
             fcntl.flock(lock, fcntl.LOCK_EX)
-        for made in wanted:
-            if not made.fresh():
-                build_one(made)
+        if not made.fresh():
+            build_one(made)
 
 
 def build_one(made):
@@ -118,7 +125,26 @@ def running(command, stdin=subprocess.DEVNULL, **others):
             end(process)
 
 
+@contextmanager
+def fed(command, job, **streams):
+    """The same with a job on its standard input."""
+    with running(command, stdin=subprocess.PIPE, **streams) as process:
+        thread = threading.Thread(target=feed, args=(process.stdin, job), daemon=True)
+        thread.start()
+        yield process
+        thread.join()
+
+
+def feed(pipe, job):
+    try:
+        pipe.write(job)
+        pipe.close()
+    except OSError:
+        pass  # it refused the job before reading it
+
+
 def end(process):
+    """Stops a command and all that it started."""
     for number in (signal.SIGTERM, signal.SIGKILL):
         try:
             os.killpg(process.pid, number)

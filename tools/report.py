@@ -1,7 +1,6 @@
 """The lines of a job: by the paper's report program, or, where a page is given, by the program `pages`, whose pages go nowhere."""
 
 import subprocess
-import threading
 
 import ending
 import findings
@@ -14,12 +13,9 @@ PAPER_LIMIT = "job longer than 65,536 bytes, which is the report's limit where n
 
 def report(call, command):
     """The paper's report, as its program writes it."""
-    with programs.running(command, stdin=subprocess.PIPE, stdout=subprocess.PIPE, stderr=subprocess.PIPE) as process:
-        thread = threading.Thread(target=pages.feed, args=(process.stdin, call.job), daemon=True)
-        thread.start()
+    with programs.fed(command, call.job, stdout=subprocess.PIPE, stderr=subprocess.PIPE) as process:
         text = process.stdout.read()
-        strange = process.stderr.read().decode("ascii", "replace").strip()
-        thread.join()
+        strange = process.stderr.read().decode("ascii", "replace").strip()  # a line at most
     lines = findings.Lines(marked=False)
     for line in text.decode("ascii", "replace").splitlines():
         lines.take(line)
