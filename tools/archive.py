@@ -25,11 +25,11 @@ def archive(given):
         data = file.read()
     if to is not None:
         to.write(data)
-        to.summary(told(to.path))
+        to.summary("archive", told(to.path))
         return ending.CLEAN
     if not same(MADE, data):
         goal.Goal(MADE, "archive").write(data)
-    ending.tell(1, files.printed(MADE), told(MADE))
+    ending.tell("archive", 1, files.printed(MADE), told(MADE))
     return ending.CLEAN
 
 

@@ -206,5 +206,5 @@ def draw(call, programs):
         folder.replace()
     notices = (*telling.of_job(call, lines, drawing.letters), *telling.of_page(call), *drawing.left_out())
     written = files.printed(call.goal)
-    ending.tell(1, written, telling.summary(lines, notices, written))
+    ending.tell("draw", 1, written, telling.summary(lines, notices, written))
     return lines.status()

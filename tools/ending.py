@@ -40,14 +40,14 @@ def notice(text):
         pass
 
 
-def tell(number, written, lines):
+def tell(word, number, written, lines):
     """The summary of what is written already. It is not to be taken for unwritten if the summary cannot be printed."""
     try:
         print_lines(number, lines)
     except OSError as error:
-        raise Wrong(f"{written} is written, its summary is not: {files.reason(error)}") from error
+        raise Wrong(f"{word}: {written} is written, its summary is not: {files.reason(error)}") from error
     except KeyboardInterrupt as error:
-        raise Wrong(f"{written} is written, its summary is not: stopped") from error
+        raise Wrong(f"{word}: {written} is written, its summary is not: stopped") from error
 
 
 def told_refusal(word, number, words):

@@ -52,9 +52,9 @@ class Goal:
             with open(self.path, "wb") as device:
                 device.write(data)
 
-    def summary(self, lines):
+    def summary(self, word, lines):
         """Said behind the result, where it is not the result's own place."""
-        ending.tell(2 if self.standard else 1, self.said(), lines)
+        ending.tell(word, 2 if self.standard else 1, self.said(), lines)
 
     def said(self):
         return "standard output" if self.standard else files.printed(self.path)

@@ -21,5 +21,5 @@ def plain(call, programs, goal):
         ending.notice("the job is empty: it has no bytes")
     if lines.status() == ending.CLEAN:
         return ending.CLEAN
-    ending.tell(2, goal.said(), telling.summary(lines, telling.of_page(call), f"passed on as {len(stream)} bytes"))
+    ending.tell("plain", 2, goal.said(), telling.summary(lines, telling.of_page(call), f"passed on as {len(stream)} bytes"))
     return ending.FINDINGS

@@ -1,6 +1,7 @@
 """The proved programs and libraries: proved and built where they are missing or older than their sources, by one command at a time."""
 
 import fcntl
+import functools
 import os
 import platform
 import re
@@ -41,6 +42,7 @@ def library(name):
     return Made(name, f"staticlib/lib{name}.a", "staticlib")
 
 
+@functools.lru_cache(None)
 def newest():
     """When the last of the sources, or of their folders, was changed."""
     found = [os.path.join(ROOT, "crates.txt")]

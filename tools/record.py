@@ -135,5 +135,5 @@ def record(call, programs, goal):
     lines = facts.lines
     if lines.refused is not None:
         return ending.told_refusal("record", lines.refused, findings.REFUSALS[lines.refused])
-    goal.summary(telling.summary(lines, (*facts.notices(), *telling.of_page(call), *facts.left_out()), goal.said()))
+    goal.summary("record", telling.summary(lines, (*facts.notices(), *telling.of_page(call), *facts.left_out()), goal.said()))
     return lines.status()
