@@ -1,8 +1,6 @@
-#!/usr/bin/env python3
 """The words of ./rovinuset, and how each call ends: 0 clean, 1 findings and nothing else, 2 all that went wrong, with a line that says what."""
 
 import os
-import sys
 
 import archive
 import draw
@@ -134,7 +132,3 @@ def main(word, *given):
         status = ending.WRONG
     files.tidy()
     return status
-
-
-if __name__ == "__main__":
-    os._exit(main(*sys.argv[1:]))  # at once: what could not be printed is not tried again
