@@ -1,10 +1,12 @@
 #!/usr/bin/env python3
-"""Draws the corpus by the command and compares the pictures with the table of the corpus.
+"""Draws the corpus by the command and compares the pictures with the table of the corpus, and what is said with the second program.
 
-    drawn.py FOLDER COMMAND PAGES..    COMMAND is rovinuset, PAGES runs the proved program `pages`
+    drawn.py FOLDER COMMAND SECOND PAGES..    COMMAND is rovinuset, SECOND the second program, PAGES runs the proved program `pages`
 
 The PNG files are decoded here, by other lines than those that write them, and must be the pages that the program itself gives; findings.txt must have
-the lines that it says. A line for each difference, then the count. Exit status 1 on any difference, or if the folder has not the streams of the table.
+the lines that it says. Each line that the command prints is made anew from the table and the second program's trace: kinds of findings, text bytes, blank
+pages. A line for each difference, then the count. Exit status 1 on any difference, if the folder has not the streams of the table, or if a line that is
+said of some jobs alone was said of none.
 """
 
 import hashlib
@@ -16,8 +18,20 @@ import tempfile
 import zlib
 
 import corpus
+import texts
 
 ROW = corpus.WIDTH // 8 + 1  # a filter byte first
+NOT_DRAWN = "nothing was drawn: no page has a dot"
+DEFAULT = "page 2552 by 3304 dots, the default: a paper (a4, letter, legal, a5) or W H chooses another"
+KINDS = {
+    1: "the job ends inside a sequence, or payload is short",
+    2: "a byte that can't stand there",
+    3: "command not carried",
+    4: "value not allowed",
+    5: "push when full, pop when empty",
+    6: "not allowed at this moment",
+    7: "damaged row",
+}
 
 
 def chunks(data):
@@ -47,31 +61,43 @@ def decoded(path):
     return (white ^ ((1 << 8 * corpus.PAGE_BYTES) - 1)).to_bytes(corpus.PAGE_BYTES, "big")
 
 
-def wanted_end(lines, folder):
-    """The last line of the terminal, and the exit status, by the table."""
+def wanted_lines(second, stream, lines, folder):
+    """What the terminal says, and the exit status, by the table and the second program."""
     pages, found = int(lines[0]["pages_base"]), int(lines[0]["findings"])
     dots = sum(int(line["dots_base"]) for line in lines if line["page"] != "-")
     said = (pages, "page"), (found, "finding"), (dots, "dot")
-    return ", ".join(f"{n} {noun}{'' if n == 1 else 's'}" for n, noun in said) + f": {folder}", 1 if found else 0
+    trace = texts.trace(second, stream, corpus.WIDTH, corpus.HEIGHT)
+    notices = [NOT_DRAWN] if dots == 0 else []
+    notices += texts.told(texts.text_bytes(stream, trace))
+    last = ", ".join(f"{n} {noun}{'' if n == 1 else 's'}" for n, noun in said) + f": {folder}"
+    return [*kinds(trace), *notices, DEFAULT, last], 1 if found else 0
 
 
-def drawn(command, program, stream, lines, room):
-    """What is wrong with the pictures of a stream, and how many there are."""
+def kinds(trace):
+    """A line for each kind of finding, with the place of the first."""
+    places = {}
+    for _, place, _, number in texts.items(trace):
+        places.setdefault(number, []).append(place)
+    return [f"finding {number}, {name}: {len(places[number])}, the first at place {places[number][0]}" for number, name in KINDS.items() if number in places]
+
+
+def drawn(command, second, program, stream, lines, room):
+    """What is wrong with the pictures of a stream, how many there are, and what was said of it."""
     job, folder = os.path.join(room, "job.pcl"), os.path.join(room, "drawn")
     with open(job, "wb") as file:
         file.write(stream)
     done = subprocess.run([command, "draw", job, "-o", folder], stdin=subprocess.DEVNULL, stdout=subprocess.PIPE)
-    end = done.stdout.decode().splitlines()[-1:], done.returncode
-    if end != ([wanted_end(lines, folder)[0]], wanted_end(lines, folder)[1]):
-        return [f"ended by {end}"], 0
+    end = done.stdout.decode().splitlines(), done.returncode
+    if end != wanted_lines(second, stream, lines, folder):
+        return [f"ended by {end}, not by {wanted_lines(second, stream, lines, folder)}"], 0, []
     count = int(lines[0]["pages_base"])
     names = [f"page-{number}.png" for number in range(1, count + 1)]
     if sorted(os.listdir(folder)) != sorted([*names, "findings.txt"]):
-        return ["the folder has other files"], 0
+        return ["the folder has other files"], 0, []
     pages = [decoded(os.path.join(folder, name)) for name in names]
     with open(os.path.join(folder, "findings.txt"), encoding="utf-8") as file:
         text = file.read()
-    return [*by_table(pages, lines), *by_program(program, stream, pages, text), *told(text.splitlines(), lines)], count
+    return [*by_table(pages, lines), *by_program(program, stream, pages, text), *told(text.splitlines(), lines)], count, end[0]
 
 
 def by_table(pages, lines):
@@ -99,15 +125,19 @@ def told(text, lines):
 
 
 def main(words):
-    folder, command, *program = words
-    streams, differences, pages = corpus.read_table(folder), [], 0
+    folder, command, second, *program = words
+    streams, differences, pages, said = corpus.read_table(folder), [], 0, ""
     with tempfile.TemporaryDirectory() as room:
         for name, lines in streams.items():
-            wrong, count = drawn(command, program, corpus.read_stream(folder, name), lines, room)
+            wrong, count, printed = drawn(command, second, program, corpus.read_stream(folder, name), lines, room)
             differences += [f"{name}: {line}" for line in wrong]
             pages += count
+            said += "\n".join(printed)
     if len(streams) != corpus.STREAMS:
         differences.append(f"the table names {len(streams)} streams, not {corpus.STREAMS}")
+    for notice in (NOT_DRAWN, " text bytes moved the cursor and were not drawn", "finding 3, "):
+        if notice not in said:
+            differences.append(f"of no stream is said: {notice}")
     print(*differences, f"drawn: {len(streams)} streams, {pages} pages, {len(differences)} differences", sep="\n")
     return 1 if differences else 0
 
