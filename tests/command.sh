@@ -1,6 +1,6 @@
 #!/usr/bin/env bash
-# The one command, as a user gives it: reports and plain streams that are right, jobs that cannot be read, and words that are wrong. A line for
-# each failed check, then the count. Exit status 1 on a failure.
+# The one command, as a user gives it: reports, pages and plain streams that are right, papers, jobs that cannot be read, help, and words that are wrong.
+# A line for each failed check, then the count. Exit status 1 on a failure.
 set -eu
 cd "$(dirname "$0")/.."
 export LC_ALL=C
@@ -8,6 +8,7 @@ export LC_ALL=C
 . tests/x86.sh
 . tests/checks.sh
 need python3 python3
+need xz xz-utils
 root=$PWD second=$PWD/second/target/release/second corpus=$PWD/tests/vectors/corpus
 for name in report pages plain; do proved_program "$name"; done
 (cd second && cargo build --release --offline --quiet)
@@ -24,6 +25,16 @@ gives() {
 quietly() { right "says on standard error: $(cat errors)" [ ! -s errors ]; }
 # refused NUMBER: status 2, nothing on standard output, and one line that says the refusal.
 refused() { refuses "rovinuset: plain: refused, number $1: "; }
+# lines_of W H FILE: the lines of this job by the second program's trace and its marks, to the file `lines`.
+lines_of() {
+  "$second" marks "$1" "$2" <"$3" >marks
+  "$second" trace "$1" "$2" <"$3" | awk -F '\t' -v size="SIZE\t$1\t$2" 'BEGIN { OFS = FS; print size }
+    $1 == "ITEM" && $4 > 0 { print "FAULT", $2, $4; mark = "none"; getline mark <"marks"; print "MARK", mark; found++ }
+    $1 == "PAGE" { print }
+    $1 == "END" { print "END", $2, $3, $15, found + 0 }' >lines
+}
+# emptily: standard error says that the job is empty, and nothing else.
+emptily() { in_words "rovinuset: the job is empty: it has no bytes"; }
 
 printf '\33&f1S\33*t300R\33*b2W\377\200\f' >paper.pcl
 printf 'SIZE\t640\t800\nFAULT\t0\t5\nPAGE\t1\t9\nEND\t0\t4500\t0\t1\n' >paper.txt
@@ -37,15 +48,147 @@ gives 1 paper.txt
 "$second" report <empty >empty.txt
 call report empty
 gives 0 empty.txt
-head -c 65537 /dev/zero >longer
+emptily
+head -c 65536 /dev/zero | tr '\0' A >long
+"$second" report <long >wanted
+call report long
+gives 0 wanted
+quietly
+printf A | cat long - >longer
 printf 'SIZE\t640\t800\nREFUSED\t12\n' >longer.txt
 call report longer
 gives 2 longer.txt
+in_words "rovinuset: report: refused, number 12: job longer than 65,536 bytes"
 for job in gm-curve-150 hp2xx-75 groff-lj4-letter; do
   "$second" report <"$corpus/$job.pcl" >wanted
   call report "$corpus/$job.pcl"
   gives "$(tail -n 1 wanted | awk '{ print ($5 > 0) }')" wanted # 0 clean, 1 findings
+  quietly
+  # On the same page, by the other program: the same lines.
+  call report 640 800 "$corpus/$job.pcl"
+  gives "$(tail -n 1 wanted | awk '{ print ($5 > 0) }')" wanted
+  quietly
 done
+call report 640 800 paper.pcl
+gives 1 paper.txt
+call report 640 800 - <paper.pcl
+gives 1 paper.txt
+call report 640 800 <paper.pcl
+gives 1 paper.txt
+call report 640 800 empty
+gives 0 empty.txt
+emptily
+
+# The pages and lines of other jobs on other pages: the second program's pages, and its lines out of its trace and its marks.
+paged=0
+while read -r job page wide high; do
+  case $job in
+  /*) file=$job ;;
+  *.xz) xz -dc "$corpus/$job" >unpacked && file=unpacked ;;
+  *) file=$corpus/$job ;;
+  esac
+  paged=$((paged + 1))
+  lines_of "$wide" "$high" "$file"
+  "$second" pages "$wide" "$high" <"$file" >wanted
+  found=$(tail -n 1 lines | awk '{ print ($5 > 0) }')
+  call pages ${page//x/ } "$file"
+  gives "$found" wanted
+  right "other lines: $(diff lines errors | head -n 3)" cmp -s lines errors
+  said="target/bin/pages $wide $high <$file"
+  x86_run "$root/target/bin/pages" "$wide" "$high" <"$file" 2>by_program >/dev/null
+  right "other lines than the program's" cmp -s by_program errors
+  grep -v '^MARK' lines >wanted
+  call report ${page//x/ } "$file"
+  gives "$found" wanted
+  quietly
+done <<JOBS
+gm-curve-150.pcl 2552x3304 2552 3304
+gm-curve-150.pcl a4 2480 3508
+gnuplot-hppj-180.pcl.xz a5 1752 2480
+groff-lj4-letter.pcl letter 2552 3300
+netpbm-pbmtolj-three-150.pcl.xz 8x1 8 1
+hp2xx-75.pcl 1000x151 1000 151
+gnuplot-pcl5.pcl 4800x6800 4800 6800
+barcode-table.pcl legal 2552 4200
+$corpus/../damaged/damaged-curve.pcl 640x800 640 800
+$corpus/../damaged/flat-curve.pcl 2552x3304 2552 3304
+JOBS
+said="pages" && right "$paged jobs, not 10" [ "$paged" -eq 10 ]
+call pages "$corpus/gm-curve-150.pcl"
+"$second" pages 2552 3304 <"$corpus/gm-curve-150.pcl" >wanted
+gives 1 wanted # on the page of draw and record
+call pages 640 800 <empty
+gives 0 empty
+right "says: $(cat errors)" cmp -s errors <(cat empty.txt; echo "rovinuset: the job is empty: it has no bytes")
+call pages 641 800 paper.pcl
+gives 2 empty
+right "says: $(cat errors)" [ "$(grep -v '^rovinuset: ' errors)" = $'SIZE\t641\t800\nREFUSED\t10' ]
+right "no words: $(cat errors)" grep -q '^rovinuset: pages: refused, number 10: page measure not allowed' errors
+head -c 1048577 /dev/zero >longer
+call pages 640 800 longer
+gives 2 empty
+right "says: $(cat errors)" [ "$(grep -v '^rovinuset: ' errors)" = $'SIZE\t640\t800\nREFUSED\t12' ]
+right "no words: $(cat errors)" grep -q '^rovinuset: pages: refused, number 12: job longer than 1,048,576 bytes' errors
+# Who reads no further has had enough: it is no clean end, and nothing is said of it.
+printf 'A\f%.0s' {1..60} >sixty.pcl
+for word in pages plain report; do
+  case $word in pages) words="640 800 sixty.pcl" ;; plain) words="$corpus/gm-letter-300.pcl" ;; report) words="8 1 feeds.pcl" ;; esac
+  head -c 300000 /dev/zero | tr '\0' '\f' >feeds.pcl
+  said="$word $words | head -c 10"
+  { status=0; "${command[@]}" $word $words 2>errors || status=$?; echo "$status" >ended; } | head -c 10 >printed
+  right "status $(cat ended), not 2" [ "$(cat ended)" -eq 2 ]
+  right "says: $(cat errors)" [ -z "$(grep -v '^[A-Z]*'$'\t' errors)" ]
+  right "not the beginning" [ "$(wc -c <printed)" -eq 10 ]
+done
+# A report on a page that is given takes as long a job as any.
+head -c 1048576 /dev/zero | tr '\0' A >longest
+lines_of 640 800 longest
+call report 640 800 longest
+gives 0 lines
+quietly
+call report 640 800 longer
+gives 2 longer.txt
+in_words "rovinuset: report: refused, number 12: job longer than 1,048,576 bytes"
+printf 'SIZE\t641\t800\nREFUSED\t10\n' >wanted
+call report 641 800 paper.pcl
+gives 2 wanted
+in_words "rovinuset: report: refused, number 10: page measure not allowed"
+
+# ---- papers: a name stands where W and H do.
+{ printf '\33*b600W'; head -c 600 /dev/zero | tr '\0' '\1'; } >row.pcl # wider than any of them: it is cut at the page's width
+while read -r paper wide high; do
+  call report $paper row.pcl
+  right "another page" [ "$(head -n 1 printed)" = "SIZE"$'\t'"$wide"$'\t'"$high" ]
+  cp printed lines
+  call report $wide $high row.pcl
+  gives 0 lines
+  call pages $paper row.pcl
+  right "another picture" [ "$(head -n 2 printed | tr '\n' ' ' | tr -d '\0')" = "P4 $wide $high " ]
+  right "another page" [ "$(head -n 1 errors)" = "SIZE"$'\t'"$wide"$'\t'"$high" ]
+  "$second" plain $wide $high <row.pcl >wanted
+  call plain $paper row.pcl
+  gives 0 wanted
+  right "a row of $(wc -c <printed) bytes" [ "$(wc -c <printed)" -eq $((7 + wide / 8)) ]
+  call report $paper <row.pcl
+  gives 0 lines
+  call report $paper - <row.pcl
+  gives 0 lines
+done <<'PAPERS'
+a4 2480 3508
+letter 2552 3300
+legal 2552 4200
+a5 1752 2480
+PAPERS
+# A file with a paper's name is given with its folder.
+cp paper.pcl a4
+call report ./a4
+gives 1 paper.txt
+call report a4 <empty
+right "the file was taken, or another page" [ "$(head -n 1 printed) $(wc -l <printed)" = "SIZE"$'\t'"2480"$'\t'"3508 2" ]
+call report 640 800 ./a4
+gives 1 paper.txt
+call report a6 paper.pcl
+refuses "report takes one job, and here are two: a6, paper.pcl"
 
 printf '\33&a10c5R' >combined.pcl
 printf '\33&a10C\33&a5R' >combined.txt
@@ -64,15 +207,51 @@ call plain 0000000000000000000000000008 01 combined.pcl
 gives 0 combined.txt
 call plain empty
 gives 0 empty
-quietly
+emptily
+# Into a file: the same bytes as on standard output.
+for job in combined.pcl "$corpus/gm-curve-150.pcl" empty; do
+  call plain "$job"
+  cp printed wanted
+  cp errors words
+  was=$status
+  call plain "$job" -o passed.pcl
+  gives "$was" empty
+  right "other words: $(cat errors)" cmp -s words errors
+  right "another stream" cmp -s wanted passed.pcl
+  call plain -o - "$job"
+  gives "$was" wanted
+  right "other words: $(cat errors)" cmp -s words errors
+  call plain "$job" -o /dev/stdout
+  gives "$was" wanted
+done
+echo mine >passed.pcl
+call plain 641 800 combined.pcl -o passed.pcl
+refused 10
+right "what was there is another" [ "$(cat passed.pcl)" = mine ]
+call plain 641 800 combined.pcl -o none.pcl
+refused 10
+right "a file is left of it" [ ! -e none.pcl ]
+cp combined.pcl job.pcl
+call plain job.pcl -o ./job.pcl
+refuses "the plain stream would be written over the job: ./job.pcl"
+right "the job is another" cmp -s combined.pcl job.pcl
+call plain combined.pcl -o nowhere/passed.pcl
+refuses "no such folder: nowhere"
+call plain combined.pcl -o /
+refuses "a folder, not a file: /"
+call plain combined.pcl -o
+refuses "plain takes -o once"
+call plain combined.pcl -o a -o b
+refuses "plain takes -o once"
+call plain combined.pcl -o /dev/full
+refuses "rovinuset: plain: not written: No space left on device"
 printf '\33*b3W\001\002\003' >wide.pcl
 printf '\33*b2W\001\002' >narrow.txt
 call plain 16 9 wide.pcl
 gives 0 narrow.txt
-head -c 1048576 /dev/zero | tr '\0' A >longest
 call plain longest
 gives 0 longest
-printf A | cat longest - >longer
+quietly
 call plain longer
 refused 12
 call plain 7 800 longer
@@ -103,12 +282,15 @@ call plain row.pcl
 gives 0 row.pcl
 # What draw says of a job, plain says on standard error, and passes it on.
 for job in "$corpus/gm-curve-150.pcl" "$corpus/../damaged/damaged-curve.pcl" "$corpus/../damaged/flat-curve.pcl"; do
-  call draw "$job" -o drawn
-  right "no findings, so this shows nothing" [ "$status" -eq 1 ]
-  sed 's/: drawn$//' printed >words
-  call plain 2552 3304 "$job"
-  right "status $status, not 1" [ "$status" -eq 1 ]
-  right "other words than draw: $(cat errors)" cmp -s words <(sed "s/: passed on as $(wc -c <printed) bytes\$//" errors)
+  for page in "2552 3304" ""; do
+    call draw $page "$job" -o drawn
+    right "no findings, so this shows nothing" [ "$status" -eq 1 ]
+    right "the page is said where it was given, or not where it was not" [ "$(grep -cxF "$default" printed)" -eq "$([ -n "$page" ]; echo $?)" ]
+    sed 's/: drawn$//' printed >words
+    call plain $page "$job"
+    right "status $status, not 1" [ "$status" -eq 1 ]
+    right "other words than draw: $(cat errors)" cmp -s words <(sed "s/: passed on as $(wc -c <printed) bytes\$//" errors)
+  done
   mv printed passed.pcl
   call plain passed.pcl
   gives 0 passed.pcl # and in what is passed on there is nothing to find
@@ -116,7 +298,7 @@ for job in "$corpus/gm-curve-150.pcl" "$corpus/../damaged/damaged-curve.pcl" "$c
 done
 call plain paper.pcl
 right "status $status, not 1" [ "$status" -eq 1 ]
-printf 'finding 5, push when full, pop when empty: 1, the first at place 0\n1 page, 1 finding, 9 dots: passed on as %d bytes\n' "$(wc -c <printed)" >wanted
+printf '%s\n' 'finding 5, push when full, pop when empty: 1, the first at place 0' "$default" "1 page, 1 finding, 9 dots: passed on as $(wc -c <printed) bytes" >wanted
 right "says: $(cat errors)" cmp -s wanted errors
 # Findings that cannot be told are no clean end, and no other one.
 said="plain paper.pcl 2>/dev/full" status=0
@@ -132,11 +314,25 @@ gives 0 combined.txt
 said="plain nowhere 2>/dev/full" status=0
 "${command[@]}" plain nowhere 2>/dev/full || status=$?
 right "status $status, not 2" [ "$status" -eq 2 ]
-# A program that fails is not a job with findings.
-printf '#!/bin/sh\nexit 1\n' >fails
-chmod +x fails
-said="tools/plain.py, over programs that fail" status=0
-python3 -B "$root/tools/plain.py" 640 800 ./fails ./fails <paper.pcl >printed 2>errors || status=$?
+# A program that fails is not a job with findings, and one whose output is of no form is not passed on.
+stub checkout
+echo mine >kept.pcl
+for word in plain "plain -o kept.pcl" "report 640 800" report "pages 640 800"; do
+  for lines in 'exit 1' 'cat >/dev/null; kill -SEGV $$' 'printf "SIZE\t640\t800\n"; printf "SIZE\t640\t800\n" >&2' 'echo UNWRITTEN >&2'; do
+    for name in pages plain report; do fake checkout $name "$lines"; done
+    said="$word, over programs that do: $lines" status=0
+    checkout/rovinuset $word <paper.pcl >printed 2>errors || status=$?
+    right "status $status, not 2" [ "$status" -eq 2 ]
+    right "not one line of its own: $(cat errors)" [ "$(grep -c '^rovinuset: ' errors)" -eq 1 ]
+    right "something else on standard error: $(cat errors)" [ -z "$(grep -v '^rovinuset: \|^SIZE' errors)" ]
+    right "prints" [ ! -s printed -o "$word" = "pages 640 800" ]
+    right "writes" [ "$(cat kept.pcl)" = mine ]
+  done
+done
+fake checkout pages 'cat >/dev/null; printf "SIZE\t640\t800\nEND\t0\t0\t0\t0\n" >&2'
+fake checkout plain 'cat >/dev/null; printf "cut"; exit 1'
+said="plain, over a program that breaks off" status=0
+checkout/rovinuset plain <paper.pcl >printed 2>errors || status=$?
 refuses "rovinuset: plain: not written: the program broke off"
 
 # A job that cannot be read: the programs say UNREAD and nothing else, the command ends with 2 and one line.
@@ -165,7 +361,7 @@ for name in report pages plain; do
     unread
   done
 done
-for word in report plain; do
+for word in report plain pages "report a5"; do
   call $word "$memory"
   refuses "the job could not be read"
   call $word <"$memory"
@@ -184,7 +380,7 @@ for word in report plain; do
 done
 # A pipe whose writer is killed ends as any other does, for the system as for us: the bytes that came are the job.
 printf '\33&a10C\33&a5' >cut.pcl
-for word in report plain; do
+for word in report plain pages "report 640 800"; do
   call $word cut.pcl
   mv printed wanted
   mv errors words
@@ -207,42 +403,112 @@ refuses "not a number of dots: -640"
 call plain 640 "" combined.pcl
 refuses "not a number of dots: "
 call plain 640 800 combined.pcl combined.pcl
-refuses "plain takes the page's width and height"
+refuses "plain takes the page's measure, or nothing, and one job"
+call plain a4 combined.pcl paper.pcl
+refuses "plain takes the page's measure, or nothing, and one job"
+call plain combined.pcl paper.pcl
+refuses "rovinuset: plain takes one job, and here are two: combined.pcl, paper.pcl"
 call report <folder
 refuses "a directory, not a job: standard input"
 call report nowhere
 refuses "no such file: nowhere"
 call report folder
 refuses "a directory, not a job: folder"
-call report paper.pcl paper.pcl
-refuses "report takes one file"
+call report paper.pcl combined.pcl
+refuses "rovinuset: report takes one job, and here are two: paper.pcl, combined.pcl"
+call pages paper.pcl combined.pcl
+refuses "rovinuset: pages takes one job, and here are two: paper.pcl, combined.pcl"
+call pages nowhere
+refuses "no such file: nowhere"
+call pages folder
+refuses "a directory, not a job: folder"
+call pages <folder
+refuses "a directory, not a job: standard input"
+
+# A dash: '-' is standard input, -- ends the options, and what begins with a dash is no file unless it is said.
+cp combined.pcl ./-x
+for words in "-x" "-x combined.pcl" "640 800 -x" "combined.pcl -x"; do
+  call plain $words
+  refuses "rovinuset: no such option: -x (a file of that name is ./-x)"
+done
+for word in report pages; do
+  call $word -o none paper.pcl
+  refuses "rovinuset: no such option: -o (a file of that name is ./-o)"
+done
+call plain --pages 3 combined.pcl
+refuses "rovinuset: no such option: --pages (a file of that name is ./--pages)"
+for words in "./-x" "-- -x" "640 800 -- -x" "-- 640 800 -x" "-- combined.pcl" "combined.pcl --" "-o - -- -x"; do
+  call plain $words
+  gives 0 combined.txt
+  quietly
+done
+call plain -- - <combined.pcl
+gives 0 combined.txt
+call plain -- -o
+refuses "no such file: -o"
+
+# Help is standard output and a clean end, for all and for each command; no word is a wrong one that is said in a line.
 call
 ends 0 "$(tail -n 1 printed)"
 cp printed usage
-call --help
-gives 0 usage
+for word in --help -h help; do
+  call $word
+  gives 0 usage
+  quietly
+done
+for word in draw record plain pages report archive bench; do
+  said="the help" && right "$word is not in it" grep -q "^  \./rovinuset $word " usage
+  call $word --help
+  ends 0 "$(tail -n 1 printed)"
+  right "it is of another command" grep -q "^\./rovinuset $word" printed
+  right "it does not say the exit status" grep -q '^Exit status: ' printed
+  cp printed its_usage
+  call $word -h
+  gives 0 its_usage
+  call help $word
+  gives 0 its_usage
+  call $word nowhere --help # whatever else is given
+  gives 0 its_usage
+done
+call --version
+printf 'Rovinuset %s\n' "$(cat "$root/VERSION")" >wanted
+gives 0 wanted
+quietly
+for word in print "" Draw draw.py --draw -x; do
+  call "$word" paper.pcl
+  case $word in "") ;; *) refuses "rovinuset: no such word: $word" && right "does not say where they are" grep -q '\./rovinuset help' errors ;; esac
+done
 call print
-right "status $status, not 2" [ "$status" -eq 2 ]
-{ echo "rovinuset: no such word: print"; cat usage; } >wanted
-right "says another text" cmp -s wanted errors
-unwritten report combined.pcl
-refuses "the report could not be written"
-unwritten plain combined.pcl
-refuses "rovinuset: plain: not written: No space left on device"
-closed report combined.pcl
-refuses "the report could not be written"
-closed plain combined.pcl
-refuses "rovinuset: plain: not written: No space left on device"
+refuses "rovinuset: no such word: print"
+
+for word in report "report 640 800" plain; do
+  unwritten $word combined.pcl
+  refuses "rovinuset: ${word%% *}: not written: No space left on device"
+  closed $word combined.pcl
+  refuses "rovinuset: ${word%% *}: not written: No space left on device"
+done
 unwritten plain paper.pcl
 refuses "rovinuset: plain: not written: No space left on device"
-unwritten
-right "status $status, not 2" [ "$status" -eq 2 ]
+# What it could not write is not said to be there: the page's line and the end are not told.
+for output in unwritten closed; do
+  $output pages 640 800 paper.pcl
+  right "status $status, not 2" [ "$status" -eq 2 ]
+  right "no words: $(cat errors)" grep -q '^rovinuset: pages: ' errors
+  right "not one line of words: $(cat errors)" [ "$(grep -c '^rovinuset: ' errors)" -eq 1 ]
+  right "it tells of a page that is not there: $(cat errors)" [ -z "$(grep '^PAGE\|^END' errors)" ]
+done
+for word in "" --help --version "draw --help"; do
+  unwritten $word
+  right "status $status, not 2" [ "$status" -eq 2 ]
+done
 : >shut
 chmod 0 shut
 bound # root may read everything
 call report shut
 refuses "no permission to read: shut"
 call plain shut
+refuses "no permission to read: shut"
+call pages shut
 refuses "no permission to read: shut"
 
 counted command
