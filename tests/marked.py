@@ -5,18 +5,19 @@ from collections import namedtuple
 
 UNITS_A_DOT = 24
 DAMAGED_ROW = 7
-# What a record holds at most.
-PICTURES, LISTED, ROWS_LISTED = 40, 500, 2000
+# What a record holds at most, if not all of it is asked for: pictures, findings in its table, damaged rows there.
+LIMITS = 40, 500, 2000
+NO_LIMITS = None, None, None
 
 # its number in the record, its page, the paper's number, the cursor's y as its item began
 Finding = namedtuple("Finding", "number page kind y")
 
 
 class Marked:
-    """What the second program says of a job on such a page."""
+    """What the second program says of a job on such a page, for a record with these limits."""
 
-    def __init__(self, second, job, width, height):
-        self.height, self.pages, self.findings = height, 0, []
+    def __init__(self, second, job, width, height, limits=LIMITS):
+        self.height, self.pages, self.findings, self.limits = height, 0, [], limits
         trace, marks = (
             subprocess.run([second, mode, str(width), str(height)], input=job, stdout=subprocess.PIPE, check=True).stdout.decode().splitlines()
             for mode in ("trace", "marks")
@@ -41,11 +42,11 @@ class Marked:
         """The pages that have a picture: those with damaged rows first."""
         first = {one.page for one in self.damaged}
         others = [page for page in range(1, self.pages + 1) if page not in first]
-        return sorted([*sorted(first), *others][:PICTURES])
+        return sorted([*sorted(first), *others][: self.limits[0]])
 
     def listed(self):
         """The findings in the table."""
-        return sorted({*self.findings[:LISTED], *self.damaged[:ROWS_LISTED]})
+        return sorted({*self.findings[: self.limits[1]], *self.damaged[: self.limits[2]]})
 
     def row(self, one):
         return min(one.y // UNITS_A_DOT, self.height)

@@ -30,6 +30,7 @@ import make  # noqa: E402
 import marked  # noqa: E402
 
 WIDTHS = (400, 1400)
+LEFT_OUT = "the record shows {} and lists {}: record --all has all"
 PROBE = """<script>
 addEventListener('load', () => {
   const all = found => [...document.querySelectorAll(found)];
@@ -40,6 +41,7 @@ addEventListener('load', () => {
     width: innerWidth,
     scrolled: document.documentElement.scrollWidth,
     text: document.body.innerText,
+    notices: all('header .notice').map(one => one.innerText),
     pictures: all('img').map(one => [one.complete, one.naturalWidth, one.naturalHeight]),
     seen: all('img').filter(one => box(one).width > 0).map(one => [one.className, Math.round(box(one).width), Math.round(box(one).height)]),
     rows: all('#list tbody tr').map(one => one.id),
@@ -88,6 +90,7 @@ class Records:
     def __init__(self, browser, command, second, folder):
         self.browser, self.command, self.second, self.folder = browser, command, second, folder
         self.checks = Checks()
+        self.printed = []  # what was said of the last one
 
     def path(self, name):
         return os.path.join(self.folder, name)
@@ -98,7 +101,8 @@ class Records:
             file.write(job)
         goal = self.path(name + ".html")
         nothing = subprocess.DEVNULL
-        done = subprocess.run([self.command, "record", *words, self.path(name), "-o", goal], stdin=nothing, stdout=nothing, stderr=nothing)
+        done = subprocess.run([self.command, "record", *words, self.path(name), "-o", goal], stdin=nothing, stdout=subprocess.PIPE, stderr=nothing)
+        self.printed = done.stdout.decode().splitlines()
         self.checks.right(f"{name}: status", status, done.returncode)
         with open(goal, encoding="utf-8") as file:
             return file.read()
@@ -172,9 +176,9 @@ def damaged_curve(records):
     no_dot_lost(right, text)
 
 
-def by_second(records, name, job, facts, width=2552, height=3304):
+def by_second(records, name, job, facts, width=2552, height=3304, limits=marked.LIMITS):
     """Each damaged row of a shown page is marked once, on its page and where the second program says; and so says the table of each finding."""
-    right, same, told = records.checks.right, records.checks.same, marked.Marked(records.second, job, width, height)
+    right, same, told = records.checks.right, records.checks.same, marked.Marked(records.second, job, width, height, limits)
     listed, marks = told.listed(), told.marks()
     in_table = {one.number for one in listed}
     same(f"{name}: rows of the table", [f"finding-{one.number}" for one in listed], facts["rows"])
@@ -233,6 +237,7 @@ def end_states(records):
     right = records.checks.right
     clean = records.shown("clean", records.make("clean.pcl", vector("corpus", "gnuplot-hpdj-75.pcl"), 0), 1400)
     right("clean: verdict", True, "This job has no findings." in clean["text"])
+    right("clean: notices", [], clean["notices"])
     right("clean: end", True, "The job ended its last page itself and began no other." in clean["text"])
     for name, job, said in (
         ("empty", b"", "No page was used."),
@@ -246,6 +251,27 @@ def end_states(records):
         right(f"{name}: end", True, said in text)
 
 
+def notices(records):
+    """What is no finding and is said all the same: in the record as in the line that is printed."""
+    right, moved = records.checks.right, "text bytes moved the cursor and were not drawn"
+    for name, job, said in (
+        ("nothing.pcl", b"Hello world", ["nothing was drawn: no page has a dot", f"10 {moved}"]),
+        ("letters.pcl", b"\x1b*b1W\xff" + b"A" * 1234, [f"1,234 {moved}"]),
+        ("blank.pcl", b"\f", ["nothing was drawn: no page has a dot"]),
+        ("row.pcl", b"\x1b*b1W\xff", []),
+    ):
+        text = records.make(name, job, 0, "640", "800")
+        right(f"{name}: printed", said, records.printed[:-1])
+        right(f"{name}: notices", [line[0].upper() + line[1:] + "." for line in said], records.shown(name, text, 400)["notices"])
+    text = records.make("empty.pcl", b"", 0, "a5")
+    facts = records.shown("empty", text, 400)
+    right("empty: printed", ["the job is empty: it has no bytes"], records.printed[:-1])
+    right("empty: said", True, "This job is empty: it has no bytes." in facts["text"])
+    right("empty: said to be clean", False, "This job has no findings." in facts["text"])
+    right("empty: the page", True, "1,752 by 2,480 dots, 300 an inch (148.3 mm by 210.0 mm), a5" in facts["text"])
+    right("empty: no page", True, "The job has no page." in facts["text"])
+
+
 def many_findings(records):
     """A long list is cut and says so; the counts are whole."""
     right = records.checks.right
@@ -253,7 +279,8 @@ def many_findings(records):
     facts = records.shown("many", text, 400)
     right("many: rows", 500, len(facts["rows"]))
     right("many: counts", 3461, sum(facts["kinds"]))
-    right("many: said", True, "2,961 of 3,461 findings are not in this list." in facts["text"])
+    right("many: said", True, "2,961 of 3,461 findings are not in this list. ./rovinuset record --all lists them all" in facts["text"])
+    right("many: printed", LEFT_OUT.format("1 of 1 page", "500 of 3,461 findings"), records.printed[-2])
 
 
 def many_pages(records):
@@ -269,7 +296,8 @@ def many_pages(records):
     right("pages: the last mark", ["findings 215 to 410, damaged rows, below the page's foot"], [one[3] for one in facts["marks"][-1:]])
     right("pages: rows", 410, len(facts["rows"]))
     right("pages: one that is not shown", ["page 60, dot row 187, 15.9 mm from the top", None], facts["places"][59])
-    for said in ("Of 61 pages 40 are shown here", "350 damaged rows, marked in the margin by the number of the finding"):
+    right("pages: printed", LEFT_OUT.format("40 of 61 pages", "410 of 410 findings"), records.printed[-2])
+    for said in ("Of 61 pages 40 are shown here", "./rovinuset record --all shows them all", "350 damaged rows, marked in the margin by the number of the finding"):
         right("pages: said", True, said in facts["text"])
     by_second(records, "pages", job, facts, 640, 800)
 
@@ -291,6 +319,26 @@ def many_rows(records):
         right("rows: nothing is said to be left out of the margins", False, "in the margins" in facts["text"])
 
 
+def all_of_it(records):
+    """More pages, findings and damaged rows than a record holds, and all of them asked for: nothing is left out, and nothing is said to be."""
+    right, row = records.checks.right, b"\x1b*b1W\x05"
+    page = b"\x1b*rC\x1b*t300R\x1b*b2M" + b"\x1b&f1S" * 13 + row * 50 + b"\f"
+    job = page * 45  # 585 findings and 2,250 damaged rows
+    text = records.make("all.pcl", job, 1, "640", "800")
+    right("not all: printed", LEFT_OUT.format("40 of 45 pages", "2,104 of 2,835 findings"), records.printed[-2])
+    by_second(records, "not all", job, records.shown("not all", text, 1400), 640, 800)
+    text = records.make("all.pcl", job, 1, "640", "800", "--all")
+    kinds = "finding 5, push when full, pop when empty: 585, the first at place 17", "finding 7, damaged row: 2250, the first at place 82"
+    end = f"45 pages, 2835 findings, 0 dots: {records.path('all.pcl.html')}"
+    right("all: printed", [*kinds, "nothing was drawn: no page has a dot", end], records.printed)
+    for width in WIDTHS:
+        facts = records.shown("all", text, width)
+        by_second(records, "all", job, facts, 640, 800, marked.NO_LIMITS)
+        right("all: pictures", 45, len(facts["seen"]))
+        right("all: rows", 2835, len(facts["rows"]))
+        right("all: said to be left out", [], [said for said in ("are shown here", "not in this list", "--all") if said in facts["text"]])
+
+
 def refused_and_named(records):
     right = records.checks.right
     facts = records.shown("refused", records.make("refused.pcl", b"\f" * 1048577, 2), 400)
@@ -302,7 +350,7 @@ def refused_and_named(records):
 
 def shown(browser, command, second, folder):
     records = Records(browser, command, second, folder)
-    for each in (damaged_curve, rows_elsewhere, flat_curve, end_states, many_findings, many_pages, many_rows, refused_and_named):
+    for each in (damaged_curve, rows_elsewhere, flat_curve, end_states, notices, many_findings, many_pages, many_rows, all_of_it, refused_and_named):
         each(records)
     print(f"record: {records.checks.done} checks in the browser, {records.checks.failed} failed")
     return 1 if records.checks.failed else 0
