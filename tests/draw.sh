@@ -176,7 +176,7 @@ tells 0 "nothing was drawn: no page has a dot" "1,048,576 text bytes moved the c
 
 # ---- how many pages are drawn: all are counted and named, whichever have a picture.
 python3 -c 'import sys; sys.stdout.buffer.write(b"\33*t300R" + b"".join(b"\33*b1W%c\33&f1S\f" % (2 ** (n + 1) - 1) for n in range(5)))' >five.pcl
-five='finding 5, push when full, pop when empty: 5, the first at place 14'
+five='finding 5, push when full, pop when empty: 5, the first at place 13'
 call draw 640 800 five.pcl -o whole
 tells 1 "$five" "5 pages, 5 findings, 15 dots: whole"
 has whole findings.txt page-{1,2,3,4,5}.png

@@ -16,7 +16,7 @@ room=$(mktemp -d)
 trap 'chmod -R u+rwx "$room"; rm -rf "$room"' EXIT
 line='find jobs -name '\''*.pcl'\'' -print0 | xargs -0 -P "$(nproc)" -I JOB sh -c '\''./rovinuset record "$1" -o "$1.html" >"$1.txt" 2>&1; printf "%s\t%s\n" "$?" "$1"'\'' - JOB >statuses'
 said="README.md"
-right "the command line is another" grep -qxF "    $line" README.md
+right "the command line is another" grep -qxF "    \$ $line" README.md
 # Out of the project, where ./rovinuset is the command all the same.
 cd "$room"
 ln -s "$root/rovinuset" rovinuset

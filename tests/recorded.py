@@ -328,7 +328,7 @@ def all_of_it(records):
     right("not all: printed", LEFT_OUT.format("40 of 45 pages", "2,104 of 2,835 findings"), records.printed[-2])
     by_second(records, "not all", job, records.shown("not all", text, 1400), 640, 800)
     text = records.make("all.pcl", job, 1, "640", "800", "--all")
-    kinds = "finding 5, push when full, pop when empty: 585, the first at place 17", "finding 7, damaged row: 2250, the first at place 82"
+    kinds = "finding 5, push when full, pop when empty: 585, the first at place 16", "finding 7, damaged row: 2250, the first at place 81"
     end = f"45 pages, 2835 findings, 0 dots: {records.path('all.pcl.html')}"
     right("all: printed", [*kinds, "nothing was drawn: no page has a dot", end], records.printed)
     for width in WIDTHS:
