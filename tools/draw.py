@@ -165,9 +165,10 @@ class Drawing:
         return f"page {page}" if page <= count else "after the last page" if count else "no page"
 
     def page(self, number, dots):
+        said = findings.counted(dots, "dot", "dots")
         if number not in self.digests:
-            return f"page {number}: {dots} dots, not drawn"
-        return f"page-{number}.png: {dots} dots, SHA-256 of the page as PBM {self.digests[number].hex()}"
+            return f"page {number}: {said}, not drawn"
+        return f"page-{number}.png: {said}, SHA-256 of the page as PBM {self.digests[number].hex()}"
 
     def told(self):
         """findings.txt, line by line: the job, its pages, its findings, its end; then the lines as the program gave them."""
