@@ -10,7 +10,8 @@ export LC_ALL=C
 need python3 python3
 root=$PWD second=$PWD/second/target/release/second
 (cd second && cargo build --release --offline --quiet)
-python3 tests/drawn.py tests/vectors/corpus "$root/rovinuset" "$second" ${x86_emulator:+"$x86_emulator"} target/bin/pages
+said="the corpus"
+right "is drawn otherwise" python3 tests/drawn.py tests/vectors/corpus "$root/rovinuset" "$second" ${x86_emulator:+"$x86_emulator"} target/bin/pages
 room=$(mktemp -d)
 trap 'chmod -R u+rwx "$room"; rm -rf "$room"' EXIT
 cd "$room" # it works from anywhere
