@@ -222,6 +222,25 @@ for lines in 'exit 1' 'cat >/dev/null; printf "SIZE\t640\t800\nFAULT\t0\t5\n" >&
 done
 right "the record is another" cmp -s first.html record.html
 right "a part of it stays: $(ls -A)" [ -z "$(ls -A | grep -x 'none.html\|.*\.part\|\.rovinuset.*')" ]
+# A long job: on a terminal a line of progress says how far it is, and is wiped at the end. Where the program is not asked it does not say how far it is.
+page='printf "P4\n640 800\n"; head -c 64000 /dev/zero'
+fake checkout pages 'sleep 1.3' "$page" 'printf "SIZE\t640\t800\nPAGE\t1\t0\n" >&2' '[ "$3" != 1 ] || printf "AT\t12\n" >&2' 'sleep 0.8' 'printf "END\t0\t0\t0\t0\n" >&2'
+cat >terminal.py <<'TEXT'
+import pty, sys
+sys.exit(pty.spawn(["sh", "-c", 'exec "$@" <clean.pcl', "-", *sys.argv[1:]]) >> 8)
+TEXT
+said="record on a terminal, slowly" status=0
+timeout 60 python3 terminal.py checkout/rovinuset record 640 800 - -o slow.html </dev/null >printed || status=$?
+right "status $status, not 0" [ "$status" -eq 0 ]
+right "no line of progress: $(cat -v printed)" grep -q $'\r0 pages, 0 findings, 0 of 14 bytes so far' printed
+right "it does not go on: $(cat -v printed)" grep -q $'\r1 pages*, 0 findings, 12 of 14 bytes so far' printed
+right "the line is not wiped: $(cat -v printed)" grep -q $'so far *\r  *\rnothing was drawn: no page has a dot\r$' printed
+right "another end: $(cat -v printed)" [ "$(tail -n 1 printed)" = $'1 page, 0 findings, 0 dots: slow.html\r' ]
+mv slow.html wanted.html
+said="record, slowly, with standard error elsewhere" status=0
+checkout/rovinuset record 640 800 - -o slow.html <clean.pcl >printed 2>errors || status=$?
+tells 0 "nothing was drawn: no page has a dot" "1 page, 0 findings, 0 dots: slow.html"
+right "another record than on a terminal" cmp -s wanted.html slow.html
 bound
 chmod 500 folder
 call record clean.pcl -o folder/record.html
