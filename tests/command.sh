@@ -237,6 +237,9 @@ refuses "the plain stream would be written over the job: ./job.pcl"
 right "the job is another" cmp -s combined.pcl job.pcl
 call plain combined.pcl -o nowhere/passed.pcl
 refuses "no such folder: nowhere"
+call plain combined.pcl -o nowhere/
+refuses "nowhere"
+right "a file was made" [ ! -e nowhere ]
 call plain combined.pcl -o /
 refuses "a folder, not a file: /"
 call plain combined.pcl -o
@@ -368,6 +371,8 @@ for word in report plain pages "report a5"; do
   refuses "the job could not be read"
   call $word <&-
   refuses "the job could not be read: standard input is closed"
+  call $word /dev/stdin <&- # by its name it is no empty job either
+  refuses "rovinuset: "
   for kind in socket network busy; do
     said="$word, $kind" status=0
     $breaks $kind "${command[@]}" $word >printed 2>errors || status=$?
