@@ -47,4 +47,11 @@ def told(path):
     include = os.path.join(programs.ROOT, "include")
     yield f"archive: {files.printed(path)}"
     yield f"header: {files.printed(os.path.join(include, 'rovinuset.h'))}"
-    yield f"link: {compiler} job.c -I{shlex.quote(include)} {shlex.quote(path)}"
+    yield f"link: {compiler} job.c -I{quoted(include)} {quoted(path)}"
+
+
+def quoted(path):
+    """The path as a word of bash, in one line."""
+    if path.isprintable():
+        return shlex.quote(path)
+    return "$'%s'" % "".join(f"\\{sign}" if sign in "'\\" else sign if sign.isprintable() else files.escaped(sign) for sign in path)

@@ -80,7 +80,7 @@ class Folder:
         """The new drawing in the place of the earlier one. findings.txt goes first and comes last, and no picture comes before the last has gone: at no moment
         are there files of both. Where one cannot be moved, all are moved back."""
         earlier, drawn, moved = os.path.join(self.room, "earlier"), sorted(os.listdir(self.room), reverse=True), []
-        with stopping.held():
+        with stopping.held(writing=self.path):
             try:
                 os.mkdir(earlier)
                 for name in self.earlier():

@@ -46,8 +46,6 @@ def tell(word, number, written, lines):
         print_lines(number, lines)
     except OSError as error:
         raise Wrong(f"{word}: {written} is written, its summary is not: {files.reason(error)}") from error
-    except KeyboardInterrupt as error:
-        raise Wrong(f"{word}: {written} is written, its summary is not: stopped") from error
 
 
 def told_refusal(word, number, words):

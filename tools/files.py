@@ -69,7 +69,7 @@ def write_whole(path, data):
         file.write(data)
         if os.path.exists(path):
             os.fchmod(number, stat.S_IMODE(os.stat(path).st_mode))
-    with stopping.held():
+    with stopping.held(writing=path):
         os.replace(part, path)
         UNMOVED.discard(part)
 

@@ -5,6 +5,7 @@ import stat
 
 import ending
 import files
+import stopping
 
 
 class Goal:
@@ -49,8 +50,10 @@ class Goal:
         elif self.whole():
             files.write_whole(self.path, data)
         else:
-            with open(self.path, "wb") as device:
-                device.write(data)
+            number = os.open(self.path, os.O_WRONLY | os.O_CLOEXEC)
+            ending.write_all(number, data)
+            os.close(number)
+        stopping.Asked.written = self.said()
 
     def summary(self, word, lines):
         """Said behind the result, where it is not the result's own place."""

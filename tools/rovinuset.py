@@ -112,7 +112,8 @@ def why(word, error):
     if isinstance(error, pages.Broken):
         return f"{word}: not written: the program broke off: {error}"
     if isinstance(error, KeyboardInterrupt):
-        return f"{word}: not written: stopped"
+        written = stopping.Asked.written
+        return f"{word}: not written: stopped" if written is None else f"{word}: {files.printed(written)} is written, its summary is not: stopped"
     if isinstance(error, MemoryError):
         return f"{word}: not written: not enough memory"
     return f"{word}: not written: {type(error).__name__}: {error}"

@@ -1,11 +1,6 @@
 #!/usr/bin/env python3
 """Starts the command. Whatever fails ends with 2, also where something of the checkout is missing: 1, which Python gives then, means findings."""
 
-import signal
-
-if signal.getsignal(signal.SIGINT) != signal.SIG_IGN:
-    signal.signal(signal.SIGINT, signal.SIG_DFL)  # nothing has begun yet: Ctrl-C ends it without a word
-
 import os
 import sys
 

@@ -7,9 +7,10 @@ SIGNALS = (signal.SIGINT, signal.SIGTERM, signal.SIGHUP)
 
 
 class Asked:
-    """Whether it was asked to stop, and whether that has to wait."""
+    """Whether it was asked to stop, and whether that has to wait. Written: what is in its place already, so that a stop comes too late for it."""
 
     held = pending = False
+    written = None
 
 
 def ask(*_):
@@ -21,10 +22,11 @@ def ask(*_):
 
 
 def watch():
-    """From here on a signal raises KeyboardInterrupt. One that is ignored, as nohup does it, stays so."""
+    """From here on a signal raises KeyboardInterrupt; they were blocked up to here (./rovinuset). One that is ignored, as nohup does it, stays so."""
     for number in SIGNALS:
         if signal.getsignal(number) != signal.SIG_IGN:
             signal.signal(number, ask)
+    signal.pthread_sigmask(signal.SIG_UNBLOCK, SIGNALS)
 
 
 def over():
@@ -34,13 +36,14 @@ def over():
 
 
 @contextmanager
-def held():
-    """What is inside is done as one: a signal waits until it is over."""
+def held(writing=None):
+    """What is inside is done as one: a signal waits until it is over. Where it puts what was asked for into its place, there is nothing more to stop: the
+    command ends as it would have."""
     outer, Asked.held = Asked.held, True
     try:
         yield
+        Asked.written = writing or Asked.written
     finally:
         Asked.held = outer
-    if Asked.pending and not outer:
-        Asked.pending = False
+    if Asked.pending and not outer and writing is None:
         raise KeyboardInterrupt
