@@ -55,6 +55,7 @@ class Folder:
                 if os.path.samestat(os.fstat(number), os.stat(self.path)):
                     return number
             except BlockingIOError:
+                files.UNUSED.clear()  # it is the other's now
                 raise ending.Wrong(f"draw: another draw is writing in: {files.printed(self.path)}") from None
             except FileNotFoundError:
                 pass

@@ -29,7 +29,7 @@ class Goal:
         name = files.printed(self.path)
         folder = os.path.dirname(os.path.realpath(self.path))
         if self.found is None:
-            if not os.path.isdir(folder):
+            if self.path.endswith("/") or not os.path.isdir(folder):
                 raise ending.Wrong(f"no such folder: {files.printed(os.path.dirname(self.path) or folder)}")
         elif stat.S_ISDIR(self.found.st_mode):
             raise ending.Wrong(f"a folder, not a file: {name}")

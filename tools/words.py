@@ -13,6 +13,7 @@ import pages
 PAPERS = {"a4": (2480, 3508), "letter": (2552, 3300), "legal": (2552, 4200), "a5": (1752, 2480)}
 DEFAULT = (2552, 3304)
 NUMBER = re.compile("[0-9]+")
+STANDARD_INPUT = ("-", "/dev/stdin", "/dev/fd/0", "/proc/self/fd/0")
 
 
 def listed(names):
@@ -53,8 +54,8 @@ def dots(text):
 
 def measure(word, others):
     """Width and height, what they are called, and the words that are left. Nothing is said where nothing was given."""
-    if others and others[0].lower() in PAPERS:
-        return (*PAPERS[others[0].lower()], others[0].lower()), others[1:]
+    if others and others[0] in PAPERS:
+        return (*PAPERS[others[0]], others[0]), others[1:]
     if len(others) < 2:
         return (None, None, None), others
     if len(others) == 2 and not any(map(NUMBER.fullmatch, others)):
@@ -74,7 +75,7 @@ class Call:
         (self.width, self.height, self.paper), left = measure(word, others)
         if len(left) > 1:
             raise ending.Wrong(f"{word} takes the page's measure, or nothing, and one job")
-        self.path = left[0] if left and left[0] != "-" else None
+        self.path = left[0] if left and left[0] not in STANDARD_INPUT else None
         self.name = "standard input" if self.path is None else os.path.basename(self.path)
         self.measured = self.width is not None
         if not self.measured:
@@ -116,7 +117,9 @@ def opened(path):
 
 
 def standard_input():
-    """A closed one is open for writing alone (./rovinuset): nothing else may take its place."""
+    """A closed one, or a folder, is open for writing alone (./rovinuset): nothing else may take its place."""
+    if os.environ.get("ROVINUSET_INPUT") == "folder":
+        raise ending.Wrong("a directory, not a job: standard input")
     if fcntl.fcntl(0, fcntl.F_GETFL) & os.O_ACCMODE == os.O_WRONLY:
         raise ending.Wrong("the job could not be read: standard input is closed")
     if os.isatty(0):
