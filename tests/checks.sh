@@ -2,6 +2,8 @@
 project=$PWD
 command=("$project/rovinuset")
 checks=0 failed=0 said=""
+# python3 may be a wrapper that looks for the right one at each call: here it is looked for once.
+! python=$(python3 -c 'import os, sys; print(os.path.dirname(sys.executable))' 2>/dev/null) || PATH=$python:$PATH
 # What is said of the page where no page is given.
 default="page 2552 by 3304 dots, the default: a paper (a4, letter, legal, a5) or W H chooses another"
 

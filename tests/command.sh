@@ -237,9 +237,9 @@ refuses "the plain stream would be written over the job: ./job.pcl"
 right "the job is another" cmp -s combined.pcl job.pcl
 call plain combined.pcl -o nowhere/passed.pcl
 refuses "no such folder: nowhere"
-call plain combined.pcl -o nowhere/
-refuses "nowhere"
-right "a file was made" [ ! -e nowhere ]
+call plain combined.pcl -o absent/
+refuses "absent"
+right "a file was made" [ ! -e absent ]
 call plain combined.pcl -o /
 refuses "a folder, not a file: /"
 call plain combined.pcl -o

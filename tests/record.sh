@@ -166,9 +166,9 @@ call record "$curve" -o folder
 refuses "a folder, not a file: folder"
 call record "$curve" -o nowhere/record.html
 refuses "no such folder: nowhere"
-call record "$curve" -o nowhere/
-refuses "nowhere"
-right "a file was made" [ ! -e nowhere ]
+call record "$curve" -o absent/
+refuses "absent"
+right "a file was made" [ ! -e absent ]
 cp clean.pcl job.pcl
 call record job.pcl -o ./job.pcl
 refuses "the record would be written over the job: ./job.pcl"
