@@ -735,6 +735,14 @@ TEXT
   unchanged kept kept.whole
   unfaked
 }
+# as_told: `work` is what the call says of it: as `behind`, written, or as `before`, not written.
+as_told() {
+  if [ "$status" -eq 1 ] || grep -q 'work.* is written, its summary is not: stopped$' errors; then
+    must "the new one is not whole" same work behind
+  else
+    must "the earlier one is another" same work before
+  fi
+}
 # At any moment, from the first on: the earlier drawing or the whole new one, and no word of Python's.
 stopped_early() {
   local moment
@@ -749,11 +757,11 @@ stopped_early() {
     cp -a before work
     run "draw, Ctrl-C after $moment seconds" "${careful[@]}" after $moment "${command[@]}" draw 640 800 paper.pcl -o work
     case $status in
-    1) must "the new one is not whole" same work behind ;;
+    1) ;;
     130) must "says something" [ ! -s errors ] ;; # it had not begun
-    *) one_line 2 "rovinuset: draw: not written: stopped" ;;
+    *) one_line 2 "stopped" ;;
     esac
-    [ "$status" -eq 1 ] || must "the earlier one is another" same work before
+    as_told
   done
 }
 # unmixed FOLDER: if findings.txt is there, all pictures are of its job.
@@ -782,12 +790,8 @@ stepped() {
 }
 # Stopped: either it is as before, and says so by its status, or it is done.
 judged_TERM() {
-  if [ "$status" -eq 2 ]; then
-    must "the earlier one is another" same work before
-  else
-    must "status $status" [ "$status" -eq 1 ]
-    must "the new one is not whole" same work behind
-  fi
+  must "status $status, neither 1 nor 2" [ "$status" -eq 1 -o "$status" -eq 2 ]
+  as_told
 }
 # Killed: nothing can be tidied up, but there is no mixture, and the next call works.
 judged_KILL() {
