@@ -12,7 +12,7 @@ need python3 python3
 for name in report pages plain; do proved_program "$name"; done
 root=$PWD
 rooms=$(readlink -f "$(mktemp -d)")
-trap 'kill $(jobs -p) 2>/dev/null; chmod -R u+rwx "$rooms"; rm -rf "$rooms"' EXIT
+trap 'kill $(jobs -p) 2>/dev/null || :; chmod -R u+rwx "$rooms"; rm -rf "$rooms"' EXIT
 chmod 755 "$rooms" # another user is to come in
 python=$(python3 -c 'import sys; print(sys.executable)')
 PATH=$(dirname "$python"):$PATH # not by a script that looks for it with each call
@@ -717,13 +717,14 @@ TEXT
   stopping stopped "report is proved" report clean.pcl
   stopping stopped "the library is proved" archive -o kept/lib.a
   stopping stopped "the library is proved" archive -o new
-  flock faked/target/rovinuset.lock sleep 600 &
-  local another=$!
-  run "draw, Ctrl-C while it waits for another that proves" "${careful[@]}" after 1 faked/rovinuset draw 640 800 clean.pcl -o new/deep
+  {
+    flock 9
+    run "draw, Ctrl-C while it waits for another that proves" "${careful[@]}" after 1 faked/rovinuset draw 640 800 clean.pcl -o new/deep 9>&-
+  } 9>faked/target/rovinuset.lock
   must "status $status, not 2" [ "$status" -eq 2 ]
   must "does not say it" [ "$(tail -n 1 errors)" = "rovinuset: draw: not written: stopped" ]
+  must "does not wait" grep -q 'waiting for another command' errors
   absent new
-  kill "$another"
   unset RT_DOES
   built faked
   # Ctrl-C as it is typed.
