@@ -73,10 +73,10 @@ def agreed(lines, dots):
 class Programs:
     """The two programs on one job and one page."""
 
-    def __init__(self, width, height, job, drawing, translating):
-        self.width, self.height, self.job = width, height, job
+    def __init__(self, call, drawing, translating=None):
+        self.width, self.height, self.job = call.width, call.height, call.job
         self.drawing, self.translating = drawing, translating
-        self.measure = [str(width), str(height)]
+        self.measure = [str(call.width), str(call.height)]
 
     def pages(self, lines):
         """Yields each page's bytes and dots as the program hands it over. Its lines go to `lines`, which are whole when the last page was given."""

@@ -33,26 +33,28 @@ def ready(call, made):
     return [programs.command_of(one) for one in made]
 
 
+def on_page(call, made):
+    """The same for the programs that take the page's measure."""
+    return pages.Programs(call, *ready(call, made))
+
+
 def drawing(given):
     call, made = on_job("draw", given, draw.TAKES, lambda _: ("pages", "plain"))
     draw.wanted_pages(call)
     draw.check_goal(call.goal)
-    commands = ready(call, made)
-    return draw.draw(call, pages.Programs(call.width, call.height, call.job, *commands))
+    return draw.draw(call, on_page(call, made))
 
 
 def recording(given):
     call, made = on_job("record", given, record.TAKES, lambda _: ("pages", "plain"))
     to = goal.Goal(call.goal, "record", call)
-    commands = ready(call, made)
-    return record.record(call, pages.Programs(call.width, call.height, call.job, *commands), to)
+    return record.record(call, on_page(call, made), to)
 
 
 def passing_on(given):
     call, made = on_job("plain", given, plain.TAKES, lambda _: ("pages", "plain"))
     to = goal.Goal(call.goal or "-", "plain stream", call)
-    commands = ready(call, made)
-    return plain.plain(call, pages.Programs(call.width, call.height, call.job, *commands), to)
+    return plain.plain(call, on_page(call, made), to)
 
 
 def pages_out(given):
@@ -62,10 +64,7 @@ def pages_out(given):
 
 def reporting(given):
     call, made = on_job("report", given, report.TAKES, lambda call: ("pages",) if call.measured else ("report",))
-    (command,) = ready(call, made)
-    if call.measured:
-        return report.report_on(call, pages.Programs(call.width, call.height, call.job, command, None))
-    return report.report(call, command)
+    return report.report_on(call, on_page(call, made)) if call.measured else report.report(call, *ready(call, made))
 
 
 def bench(given):

@@ -67,7 +67,6 @@ class Call:
     """A command on a job: its options, its page, its job, which is opened here and read by `read`."""
 
     def __init__(self, word, words, takes):
-        self.word = word
         self.options, others = split(word, words, takes)
         self.goal = self.options.get("-o")
         if self.goal is None and takes.get("-o") == "where to write":
