@@ -1,7 +1,8 @@
 #!/usr/bin/env bash
-# A folder of jobs recorded on all processors, by the command line that README.md has for it: 500 jobs cut out of real streams, some clean, some with findings,
-# some refused, some that cannot be read, under names with spaces. The exit status of each must be what the second program says of it, and no record may be
-# another than that of the job recorded alone. A line for each failed check, then the count and the time. Exit status 1 on a failure.
+# jobs.sh [COUNT]: a folder of jobs recorded on all processors, by the command line that README.md has for it: 500 jobs, or another multiple of 50, cut out of
+# real streams, some clean, some with findings, some refused, some that cannot be read, under names with spaces. The exit status of each must be what the second
+# program says of it, and no record may be another than that of the job recorded alone. A line for each failed check, then the count and the time. Exit status 1
+# on a failure.
 set -eu
 cd "$(dirname "$0")/.."
 export LC_ALL=C
@@ -9,7 +10,7 @@ export LC_ALL=C
 . tests/x86.sh
 . tests/checks.sh
 need python3 python3
-root=$PWD second=$PWD/second/target/release/second
+count=${1-500} root=$PWD second=$PWD/second/target/release/second
 for name in pages plain; do proved_program "$name"; done
 (cd second && cargo build --release --offline --quiet)
 room=$(mktemp -d)
@@ -26,7 +27,7 @@ ln -s "$root/rovinuset" rovinuset
 cat >make.py <<'TEXT'
 import glob, os, random, subprocess, sys
 
-vectors, second = sys.argv[1:]
+vectors, second, count = sys.argv[1:]
 PAGE = ["2552", "3304"]
 LONGEST = 1048576
 chosen = random.Random(1)
@@ -53,7 +54,7 @@ def cut():
 
 def jobs():
     """The kind of each job, and its bytes."""
-    for number in range(500):
+    for number in range(int(count)):
         if number % 50 < 20:
             yield "cut", cut()
         elif number % 50 < 40:
@@ -83,10 +84,10 @@ with open("wanted", "w") as wanted:
             os.chmod(name, 0)
         print(2 if kind in ("folder", "link", "shut") else ended, name, sep="\t", file=wanted)
 TEXT
-python3 make.py "$root/tests/vectors" "$second"
+python3 make.py "$root/tests/vectors" "$second" "$count"
 said="the jobs"
-right "not 500" [ "$(find jobs -name '*.pcl' | wc -l)" -eq 500 ]
-for ended in 0 1 2; do right "too few end by $ended: $(cut -f 1 wanted | grep -cx $ended)" [ "$(cut -f 1 wanted | grep -cx $ended)" -ge 20 ]; done
+right "not $count" [ "$(find jobs -name '*.pcl' | wc -l)" -eq "$count" ]
+for ended in 0 1 2; do right "too few end by $ended: $(cut -f 1 wanted | grep -cx $ended)" [ "$(cut -f 1 wanted | grep -cx $ended)" -ge $((count / 25)) ]; done
 
 as_given=() # root may read everything
 [ "$(id -u)" != 0 ] || as_given=(setpriv --bounding-set -dac_override,-dac_read_search)
@@ -95,7 +96,7 @@ said="$line" status=0 began=$EPOCHREALTIME
 took=$((${EPOCHREALTIME/./} - ${began/./}))
 right "status $status, not 0" [ "$status" -eq 0 ]
 right "says: $(cat errors)" [ ! -s errors ]
-right "not 500 lines: $(wc -l <statuses)" [ "$(wc -l <statuses)" -eq 500 ]
+right "not $count lines: $(wc -l <statuses)" [ "$(wc -l <statuses)" -eq "$count" ]
 right "other statuses than the second program's: $(diff <(sort wanted) <(sort statuses) | head -n 5)" cmp -s <(sort wanted) <(sort statuses)
 
 # Each has what it says beside it; and a record, unless it cannot be read.
@@ -122,11 +123,11 @@ while IFS=$'\t' read -r ended job; do
 done <wanted
 said="the records"
 right "$lacking say something else" [ "$lacking" -eq 0 ]
-right "$records records, not 490" [ "$records" -eq 490 ]
+right "$records records, not $((count - count / 50))" [ "$records" -eq $((count - count / 50)) ]
 right "other files are left: $(find jobs ! -name '*.pcl' ! -name '*.pcl.html' ! -name '*.pcl.txt' ! -type d)" \
   [ -z "$(find jobs ! -name '*.pcl' ! -name '*.pcl.html' ! -name '*.pcl.txt' ! -type d)" ]
 
-# A record does not hang on what else is recorded at the time: 20 of them alone, byte for byte.
+# A record does not hang on what else is recorded at the time: one in 25 of them alone, byte for byte.
 alone=0
 while IFS=$'\t' read -r ended job; do
   alone=$((alone + 1))
@@ -134,7 +135,7 @@ while IFS=$'\t' read -r ended job; do
   right "status $status, not $ended" [ "$status" -eq "$ended" ]
   right "another record" cmp -s alone.html "$job.html"
 done < <(grep -v '/\(shut\|folder\|link\)/' wanted | awk 'NR % 24 == 12')
-said="alone" && right "$alone, not 20" [ "$alone" -eq 20 ]
+said="alone" && right "$alone, not $((count / 25))" [ "$alone" -eq $((count / 25)) ]
 
-echo "jobs: 500 jobs on $(nproc) processors in $((took / 1000000)) seconds, $((took / 500000)) ms each"
+echo "jobs: $count jobs on $(nproc) processors in $((took / 1000000)) seconds, $((took / count / 1000)) ms each"
 counted jobs

@@ -47,9 +47,9 @@ def make_beside(folder, make):
         return path, made
 
 
-def create(path, mode=0o666):
+def create(path):
     """A new file, by its descriptor: not one that is there, and not through a link."""
-    return os.open(path, os.O_WRONLY | os.O_CREAT | os.O_EXCL | os.O_NOFOLLOW | os.O_CLOEXEC, mode)
+    return os.open(path, os.O_WRONLY | os.O_CREAT | os.O_EXCL | os.O_NOFOLLOW | os.O_CLOEXEC, 0o666)
 
 
 def write_new(path, data):
