@@ -1,7 +1,6 @@
 """The library for firmware: where it and its header are, and how to link them."""
 
 import os
-import platform
 import shlex
 
 import ending

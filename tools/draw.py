@@ -202,7 +202,7 @@ def draw(call, programs):
         drawing.draw(folder)
         lines = drawing.lines
         if lines.refused is not None:
-            return ending.told_refusal("draw", lines.refused, findings.REFUSALS[lines.refused])
+            return telling.refused("draw", lines.refused)
         drawing.letters = programs.letters()
         folder.write("findings.txt", "".join(f"{line}\n" for line in drawing.told()).encode("utf-8", "surrogateescape"))
         folder.replace()

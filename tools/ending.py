@@ -5,7 +5,7 @@ import select
 
 import files
 
-CLEAN, FINDINGS, WRONG = 0, 1, 2  # 1 means findings and nothing else
+CLEAN, WRONG = 0, 2  # 1 means findings and nothing else: Lines.status in findings.py alone gives it
 
 
 class Wrong(Exception):
@@ -46,8 +46,3 @@ def tell(word, number, written, lines):
         print_lines(number, lines)
     except OSError as error:
         raise Wrong(f"{word}: {written} is written, its summary is not: {files.reason(error)}") from error
-
-
-def told_refusal(word, number, words):
-    notice(f"{word}: refused, number {number}: {words}")
-    return WRONG

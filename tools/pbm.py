@@ -7,6 +7,7 @@ import ending
 import findings
 import pages
 import programs
+import telling
 
 TAKES = {}
 
@@ -24,8 +25,4 @@ def write_pages(call, command):
     if lines.strange == "UNWRITTEN":
         raise ending.Wrong("pages: the pages could not be written")
     pages.agreed(lines, [])
-    if lines.refused is not None:
-        return ending.told_refusal("pages", lines.refused, findings.REFUSALS[lines.refused])
-    if not call.job:
-        ending.notice("the job is empty: it has no bytes")
-    return lines.status()
+    return telling.ended(call, lines) if lines.refused is None else telling.refused("pages", lines.refused)

@@ -15,11 +15,8 @@ def plain(call, programs, goal):
     programs.take(lines)
     stream, refused = programs.plain() if lines.refused is None else (b"", lines.refused)
     if refused is not None:
-        return ending.told_refusal("plain", refused, findings.REFUSALS[refused])
+        return telling.refused("plain", refused)
     goal.write(stream)
-    if not call.job:
-        ending.notice("the job is empty: it has no bytes")
-    if lines.status() == ending.CLEAN:
-        return ending.CLEAN
-    ending.tell("plain", 2, goal.said(), telling.summary(lines, telling.of_page(call), f"passed on as {len(stream)} bytes"))
-    return ending.FINDINGS
+    if lines.places:
+        ending.tell("plain", 2, goal.said(), telling.summary(lines, telling.of_page(call), f"passed on as {len(stream)} bytes"))
+    return telling.ended(call, lines)

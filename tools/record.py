@@ -8,7 +8,6 @@ import os
 from collections import Counter
 from contextlib import closing
 
-import ending
 import files
 import findings
 import pages
@@ -134,6 +133,6 @@ def record(call, programs, goal):
         goal.write(recordhtml.record(facts).encode("utf-8"))
     lines = facts.lines
     if lines.refused is not None:
-        return ending.told_refusal("record", lines.refused, findings.REFUSALS[lines.refused])
+        return telling.refused("record", lines.refused)
     goal.summary("record", telling.summary(lines, (*facts.notices(), *telling.of_page(call), *facts.left_out()), goal.said()))
     return lines.status()

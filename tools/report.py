@@ -6,6 +6,7 @@ import ending
 import findings
 import pages
 import programs
+import telling
 
 TAKES = {}
 PAPER_LIMIT = "job longer than 65,536 bytes, which is the report's limit where no page is given"
@@ -22,7 +23,9 @@ def report(call, command):
     if strange or not lines.whole():
         raise pages.Broken(strange or lines.strange or "no last line")
     ending.write_all(1, text)
-    return told_end(call, lines, {**findings.REFUSALS, 12: PAPER_LIMIT})
+    if lines.refused is not None:
+        return telling.refused("report", lines.refused, {12: PAPER_LIMIT})
+    return telling.ended(call, lines)
 
 
 def report_on(call, run):
@@ -30,12 +33,4 @@ def report_on(call, run):
     lines = findings.Lines()
     run.take(lines)
     ending.print_lines(1, (line for line in findings.raw(call.width, call.height, lines) if not line.startswith("MARK")))
-    return told_end(call, lines, findings.REFUSALS)
-
-
-def told_end(call, lines, refusals):
-    if lines.refused is not None:
-        return ending.told_refusal("report", lines.refused, refusals[lines.refused])
-    if not call.job:
-        ending.notice("the job is empty: it has no bytes")
-    return lines.status()
+    return telling.ended(call, lines) if lines.refused is None else telling.refused("report", lines.refused)

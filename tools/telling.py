@@ -1,13 +1,29 @@
-"""What is said of a job besides its findings: notices, in the summary, in findings.txt and in the record."""
+"""What is said of a job besides its findings: its refusal, and notices in the summary, in findings.txt and in the record."""
 
+import ending
 import findings
 import words
+
+EMPTY = "the job is empty: it has no bytes"
+
+
+def refused(word, number, refusals=findings.REFUSALS):
+    """The refusal in words, and the exit status."""
+    ending.notice(f"{word}: refused, number {number}: {refusals[number]}")
+    return ending.WRONG
+
+
+def ended(call, lines):
+    """The exit status of a job that was not refused, where there is no summary that says whether it is empty."""
+    if not call.job:
+        ending.notice(EMPTY)
+    return lines.status()
 
 
 def of_job(call, lines, letters):
     """Whether the job is empty, whether anything was drawn, and what was passed over: until letters are drawn, text leaves no dot and gives no finding."""
     if not call.job:
-        yield "the job is empty: it has no bytes"
+        yield EMPTY
         return
     if not any(lines.dots):
         yield "nothing was drawn: no page has a dot"
