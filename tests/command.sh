@@ -481,7 +481,8 @@ gives 0 wanted
 quietly
 for word in print "" Draw draw.py --draw -x; do
   call "$word" paper.pcl
-  case $word in "") ;; *) refuses "rovinuset: no such word: $word" && right "does not say where they are" grep -q '\./rovinuset help' errors ;; esac
+  refuses "rovinuset: no such word: $word"
+  right "does not say where they are" grep -q '\./rovinuset help' errors
 done
 call print
 refuses "rovinuset: no such word: print"
