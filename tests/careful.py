@@ -3,7 +3,7 @@
 
     careful.py stopped SIGNAL COMMAND..          the command, stopped as soon as the file $STAGE is there
     careful.py reading SIGNAL PIPE COMMAND..     the command, stopped when it has read what is in PIPE ('-': its standard input), whose end does not come
-    careful.py after SECONDS COMMAND..           the command, stopped by Ctrl-C after so many seconds, if it has not ended
+    careful.py after SECONDS SIGNAL COMMAND..    the command, stopped after so many seconds, if it has not ended
     careful.py unread COMMAND..                  the command with such a pipe for standard input: it must end by itself, and take nothing out of it
     careful.py gone STREAM COMMAND..             the command with a pipe for standard output (1) or error (2) whose reader has gone away
     careful.py keys COMMAND..                    the command on a terminal; Ctrl-C is typed when the file $STAGE is there. Prints what the terminal shows
@@ -12,8 +12,8 @@
     careful.py records FILE A B COMMAND..        the same for a FILE: what is seen is one of both, whole
     careful.py python FLAGS.. SCRIPT WORDS..     in the place of python3: $STEP says what happens when SCRIPT moves or removes files (`stepwise`)
 
-SIGNAL is INT, which goes to the whole process group as a terminal sends it, or TERM or HUP, which go to the command alone. The exit status is the command's;
-99 where it does not end, 98 where it leaves a process behind. A and B lie beside A.whole and B.whole, which is what each gives when it is alone.
+SIGNAL is INT, which goes to the whole process group as a terminal sends it, or TERM or HUP, which go to the command alone, or some of them, as INT+TERM, one
+right behind the other. The exit status is the command's; 99 where it does not end, 98 where it leaves a process behind. A and B lie beside A.whole and B.whole, which is what each gives when it is alone.
 """
 
 import errno
@@ -77,13 +77,13 @@ class Run:
     def ended(self):
         return self.process.poll() is not None
 
-    def stop(self, name):
-        number = getattr(signal, "SIG" + name)
-        if name != "INT":
-            self.process.send_signal(number)
-            return
-        for _ in range(2):  # nobody types it once
-            os.killpg(self.process.pid, number)
+    def stop(self, names):
+        for name in names.split("+"):
+            if name == "INT":
+                for _ in range(2):  # nobody types it once
+                    os.killpg(self.process.pid, signal.SIGINT)
+            else:
+                self.process.send_signal(getattr(signal, "SIG" + name))
 
     def status(self):
         """Waits for the end: of the command, and of all that it started."""
@@ -117,10 +117,10 @@ def stopped(name, *command):
     return stop_when(Run(command), name, lambda: os.path.exists(stage))
 
 
-def after(seconds, *command):
+def after(seconds, name, *command):
     run, end = Run(command), time.monotonic() + float(seconds)
     if until(lambda: time.monotonic() >= end) and not run.ended():
-        run.stop("INT")
+        run.stop(name)
     return run.status()
 
 
@@ -223,8 +223,8 @@ def again(command, job, goal, told):
         told.append((done.returncode, done.stderr.decode("utf-8", "replace").strip()))
 
 
-def at_once(look, goal, jobs, command, refusal):
-    """Both jobs at once, with a look at the goal all the time. Whatever is wrong is a line. Besides its own status a call may end by the refusal."""
+def at_once(look, goal, jobs, command, *refusals):
+    """Both jobs at once, with a look at the goal all the time. Whatever is wrong is a line. Besides its own status a call may end by one of the refusals."""
     whole = {job: contents(job + ".whole") for job in jobs}
     told = {job: [] for job in jobs}
     threads = [threading.Thread(target=again, args=(command, job, goal, told[job])) for job in jobs]
@@ -241,25 +241,35 @@ def at_once(look, goal, jobs, command, refusal):
         faults.add("what is left at the end is neither of both")
     faults.update(f"{job} was never seen, so this shows little" for job in jobs if job not in seen)
     for job in jobs:
-        right = {(0, ""), (2, refusal)}
+        right = {(0, ""), *((2, refusal) for refusal in refusals)}
         faults.update(f"{job} ended with {status}: {said}" for status, said in told[job] if (status, said) not in right)
     print("\n".join(sorted(faults)))
     return 1 if faults else 0
 
 
 def draws(folder, first, second, *command):
-    return at_once(look_at_drawing, folder, (first, second), command, f"rovinuset: draw: another draw is writing in: {folder}")
+    refusals = (f"rovinuset: draw: another draw {does} in: {folder}" for does in ("is writing", "has written"))
+    return at_once(look_at_drawing, folder, (first, second), command, *refusals)
 
 
 def records(path, first, second, *command):
-    return at_once(contents, path, (first, second), command, None)
+    return at_once(contents, path, (first, second), command)
+
+
+def no_memory(*_):
+    raise MemoryError
 
 
 def stepwise():
     """$STEP is `NUMBER ACTION FILE`. What this process moves, links or removes is a line in FILE; before the step of this number it gets a signal (TERM,
-    KILL) or the step fails (FAIL). SLOW: before every step there is a pause. INT: Ctrl-C comes before the script's first line, as if Python still started."""
+    KILL) or the step fails (FAIL). SLOW: before every step there is a pause. INT: Ctrl-C comes before the script's first line, as if Python still started.
+    MEMORY: there is none for a program's lines."""
     number, action, log = os.environ["STEP"].split(" ", 2)
     count = 0
+    if action == "MEMORY":
+        import findings  # the command's own
+
+        findings.Lines.take = no_memory
     if action == "INT":
         signal.signal(signal.SIGINT, signal.default_int_handler)
         os.kill(os.getpid(), signal.SIGINT)

@@ -4,11 +4,7 @@
 # Exit status 1 on a failure. careful.sh PART.. tries these parts alone; their names are at the end.
 set -eu
 cd "$(dirname "$0")/.."
-export LC_ALL=C
-. tests/need.sh
-. tests/x86.sh
 . tests/checks.sh
-need python3 python3
 for name in report pages plain; do proved_program "$name"; done
 root=$PWD
 rooms=$(readlink -f "$(mktemp -d)")
@@ -166,7 +162,9 @@ streamed() {
   "<&-") "${command[@]}" "$@" >printed 2>errors <&- ;;
   ">&-") "${command[@]}" "$@" <paper.pcl 2>errors >&- ;;
   ">/dev/full") "${command[@]}" "$@" <paper.pcl 2>errors >/dev/full ;;
+  ">folder") "${command[@]}" "$@" <paper.pcl 2>errors 1<programs ;;
   "2>&-") "${command[@]}" "$@" <paper.pcl >printed 2>&- ;;
+  "2>folder") "${command[@]}" "$@" <paper.pcl >printed 2<programs ;;
   "2>/dev/full") "${command[@]}" "$@" <paper.pcl >printed 2>/dev/full ;;
   "all closed") "${command[@]}" "$@" <&- >&- 2>&- ;;
   "both full") "${command[@]}" "$@" <paper.pcl >/dev/full 2>/dev/full ;;
@@ -184,7 +182,8 @@ streamed() {
     esac
   fi
 }
-# streams OUTPUT ERROR INPUT ALL WORDS..: the call with standard output, error, input closed or full, and with all so: it must end with these statuses.
+# streams OUTPUT ERROR INPUT ALL WORDS..: the call with standard output, error, input closed, full or a folder, and with all closed: it must end with these
+# statuses.
 streams() {
   local output=$1 error=$2 input=$3 all=$4
   shift 4
@@ -193,8 +192,10 @@ streams() {
   [ ! -e goal ] || mv goal whole
   streamed "$output" ">&-" "$@"
   streamed "$output" ">/dev/full" "$@"
+  streamed "$output" ">folder" "$@"
   streamed "$error" "2>&-" "$@"
   streamed "$error" "2>/dev/full" "$@"
+  streamed "$error" "2>folder" "$@"
   streamed "$input" "<&-" "$@"
   streamed "$all" "all closed" "$@"
   [ "$output$error" != 22 ] || streamed 2 "both full" "$@"
@@ -224,6 +225,19 @@ closed_and_full() {
     : >printed.whole
     for how in ">&-" "2>&-" "2>/dev/full" "all closed"; do streamed 2 "$how" $word; done
   done
+  # Pages whose lines cannot be written are whole all the same.
+  { cat paper.pcl && head -c 300 /dev/zero | tr '\0' '\f'; } >blank.pcl
+  call pages 640 800 blank.pcl
+  must "status $status, not 1" [ "$status" -eq 1 ]
+  mv printed printed.whole
+  rm -rf whole
+  for how in "2>&-" "2>/dev/full" "2>folder"; do
+    streamed 2 "$how" pages 640 800 blank.pcl
+    must "not all pages" same printed printed.whole
+  done
+  run "pages 640 800 blank.pcl, with errors that nobody reads" "${careful[@]}" gone 2 "${command[@]}" pages 640 800 blank.pcl
+  must "status $status, not 2" [ "$status" -eq 2 ]
+  must "not all pages" same printed printed.whole
   # What was written is not called unwritten where its summary alone could not be.
   for word in draw record; do
     rm -rf goal
@@ -288,6 +302,69 @@ into_output() {
     must "does not name the header" grep -q '^header: ' errors
   done
   absent ./-
+}
+
+# A name of what is open, as /dev/fd/3: the result goes there, as it stands. Where standard error is closed there is no file of that name, whatever bash has
+# there. Names by which no file can be had are refused before anything is done.
+descriptors() {
+  local goal word
+  call plain paper.pcl
+  cp printed stream.whole
+  cp errors words.whole
+  for goal in /dev/stderr /dev/fd/2 /proc/self/fd/2; do
+    for word in "plain paper.pcl" "record 640 800 paper.pcl" archive; do
+      said="$word -o $goal 2>&-" status=0
+      "${command[@]}" $word -o $goal >printed 2>&- || status=$?
+      must "status $status, not 2" [ "$status" -eq 2 ]
+      must "the command itself is another" same real/rovinuset "$root/rovinuset"
+    done
+    call plain paper.pcl -o $goal
+    must "status $status, not 1" [ "$status" -eq 1 ]
+    must "another stream" same errors stream.whole
+    must "other words" same printed words.whole
+  done
+  { echo before; cat stream.whole; echo behind; } >wanted
+  for word in there gone; do
+    exec 3<>opened
+    echo before >&3
+    [ $word = there ] || rm opened
+    call plain paper.pcl -o /dev/fd/3
+    must "status $status, not 1" [ "$status" -eq 1 ]
+    echo behind >&3
+    cat /dev/fd/3 >printed
+    must "another stream in a file that is $word" same printed wanted
+    exec 3>&-
+    rm -f opened
+    must "another file: $(echo opened*)" [ -z "$(ls | grep '^opened')" ]
+  done
+  call plain paper.pcl -o /dev/stdin <&-
+  refuses "rovinuset: no permission to write: /dev/stdin"
+  cp paper.pcl given.pcl
+  exec 3<>given.pcl
+  call plain given.pcl -o /dev/fd/3
+  refuses "rovinuset: the plain stream would be written over the job: /dev/fd/3"
+  unchanged given.pcl paper.pcl
+  exec 3<given.pcl
+  call record 640 800 paper.pcl -o /dev/fd/3
+  refuses "rovinuset: no permission to write: /dev/fd/3"
+  exec 3>&-
+  for word in ">" ">>"; do
+    said="archive $word target/librovinuset.a" status=0
+    (cd real && eval "./rovinuset archive $word target/librovinuset.a" 2>../errors) || status=$?
+    must "status $status, not 0" [ "$status" -eq 0 ]
+    must "not the library" same real/target/librovinuset.a real/target/staticlib/libdoor.a
+    must "does not name the header" grep -q '^header: ' errors
+  done
+  run "help, into a file that may not grow" bash -c 'ulimit -f 0 && exec "$@" >grown' - "${command[@]}" help
+  must "status $status, not 2" [ "$status" -eq 2 ]
+  ln -s round round
+  for goal in round "$(head -c 256 /dev/zero | tr '\0' x)"; do
+    for word in "plain paper.pcl" "record 640 800 paper.pcl" archive; do
+      call $word -o "$goal"
+      refuses "rovinuset: no file can be written: $goal: "
+    done
+  done
+  must "the link is gone" [ -L round ]
 }
 
 # A checkout in which something of the tools is missing: that is no finding.
@@ -441,6 +518,88 @@ TEXT
   unfaked
   rm -rf folder earlier linked
 }
+# begun NAME WORDS..: a draw that has begun and waits for its first page, or for being refused. $NAME is its process.
+begun() {
+  rm -f "$STAGE"
+  faked/rovinuset draw "${@:2}" >"$1.printed" 2>"$1.errors" &
+  printf -v "$1" %s $!
+  said="draw ${*:2}" && must "does not come so far" appears "$STAGE"
+}
+# goes_on: so does the draw that waits.
+goes_on() { timeout 10 sh -c 'echo go >"$STAGE.begin"' || :; }
+# joined NAME: waits for its end. $status, `printed` and `errors` are its own.
+joined() {
+  said="the $1 of two draws" status=0
+  wait "${!1}" || status=$?
+  cp "$1.printed" printed
+  cp "$1.errors" errors
+}
+# Two draws in a folder that is not there: nothing is seen of it before one of them is whole, and nothing is left by what is refused, stopped, or too late.
+together() {
+  local first second
+  mkfifo "$STAGE.begin"
+  instead pages <<'TEXT'
+: >"$STAGE"
+read -r go <"$STAGE.begin"
+exec "$PROGRAMS/pages" "$@"
+TEXT
+  call draw 640 800 clean.pcl -o clean.whole
+  call draw 640 800 three.pcl -o three.whole
+  begun first 640 800 three.pcl -o beside/deep
+  absent beside
+  run "the second of two draws" timeout 10 real/rovinuset draw 641 800 clean.pcl -o beside/deep
+  refuses "rovinuset: draw: refused, number 10: "
+  absent beside
+  run "the second of two draws" timeout 10 real/rovinuset draw 640 800 clean.pcl -o beside/deep
+  ends 0 "1 page, 0 findings, 9 dots: beside/deep"
+  unchanged beside/deep clean.whole
+  goes_on
+  joined first
+  refuses "rovinuset: draw: another draw has written in: beside/deep"
+  unchanged beside/deep clean.whole
+  # A folder above it, or the folder itself, may come to be there.
+  rm -rf beside
+  begun first 640 800 three.pcl -o beside/deep
+  run "the second of two draws" timeout 10 real/rovinuset draw 640 800 clean.pcl -o beside/other
+  ends 0 "1 page, 0 findings, 9 dots: beside/other"
+  goes_on
+  joined first
+  ends 0 "3 pages, 0 findings, 13 dots: beside/deep"
+  unchanged beside/deep three.whole
+  unchanged beside/other clean.whole
+  must "something is left" [ "$(ls -A beside | wc -l)" -eq 2 ]
+  rm -rf beside
+  begun first 640 800 three.pcl -o beside/deep
+  mkdir -p beside/deep
+  echo mine >beside/deep/mine
+  goes_on
+  joined first
+  ends 0 "3 pages, 0 findings, 13 dots: beside/deep"
+  must "the user's file is gone" [ "$(cat beside/deep/mine)" = mine ]
+  rm beside/deep/mine
+  unchanged beside/deep three.whole
+  # Two in one that is not there: whoever ends last, nothing stays if both are stopped.
+  rm -rf beside
+  begun first 640 800 three.pcl -o beside/one
+  begun second 640 800 three.pcl -o beside/other/deep
+  kill -TERM "$first"
+  joined first
+  refuses "rovinuset: draw: not written: stopped"
+  kill -TERM "$second"
+  joined second
+  refuses "rovinuset: draw: not written: stopped"
+  absent beside
+  # Through what is not there, into an empty folder of the user's own.
+  mkdir -m 2750 users
+  run "draw that is refused, by another name" real/rovinuset draw 641 800 clean.pcl -o nowhere/../users
+  refuses "rovinuset: draw: refused, number 10: "
+  must "the user's folder is another" [ "$(stat -c %a users)" = 2750 ]
+  absent nowhere
+  unfaked
+  rmdir users
+  rm -r clean.whole three.whole
+  must "something is left" [ "$(ls -A | grep -c '^\.rovinuset-')" -eq 0 ]
+}
 # Many real ones: whoever looks sees one job or the other. $STEP makes each move slow, so that there is time to look.
 many_at_once() {
   local name
@@ -453,19 +612,19 @@ many_at_once() {
     STEP="0 SLOW $room/steps.log" "${command[@]}" draw 640 800
   must "$(cat printed errors)" [ "$status" -eq 0 ]
   must "no move was slow, so this shows little" [ -s steps.log ]
-  # A folder that is not there, which a refused draw makes and removes again while another draws in it.
+  # A folder that is not there, and one that is refused.
   for name in 1 2 3 4 5; do
     rm -rf beside
     real/rovinuset draw 641 800 clean.pcl -o beside/deep >first.printed 2>first.errors &
     run "draw beside one that is refused" real/rovinuset draw 640 800 clean.pcl -o beside/deep
     wait $! || :
-    if [ "$status" -eq 2 ]; then
-      refuses "rovinuset: draw: another draw is writing in: beside/deep"
-    else
-      ends 0 "1 page, 0 findings, 9 dots: beside/deep"
-      unchanged beside/deep clean.pcl.whole
-    fi
+    ends 0 "1 page, 0 findings, 9 dots: beside/deep"
+    unchanged beside/deep clean.pcl.whole
   done
+  rm -rf beside
+  for name in 1 2 3 4; do real/rovinuset draw 641 800 clean.pcl -o beside/$name >/dev/null 2>&1 & done
+  wait
+  said="four draws that are refused" && absent beside
   for name in clean three; do
     rm -rf $name.pcl.whole
     mv $name.pcl.html $name.pcl.whole
@@ -614,6 +773,23 @@ TEXT
     fi
   done
 }
+# A umask that takes the owner's own rights: what was in progress can be removed all the same.
+masked() {
+  local other=() page
+  [ "$(id -u)" != 0 ] || other=(setpriv --reuid=65534 --regid=65534 --clear-groups env PATH="/usr/local/bin:/usr/bin:/bin")
+  mkdir masked
+  chmod 777 masked
+  chmod 644 paper.pcl
+  for page in "641 800" "640 800"; do
+    run "draw $page with a umask of 0777" "${other[@]}" bash -c 'umask 0777 && exec "$@"' - real/rovinuset draw $page paper.pcl -o masked/new/deep
+    if [ "$page" = "641 800" ]; then
+      refuses "rovinuset: draw: refused, number 10: "
+      must "something is left" [ -z "$(ls -A masked)" ]
+    else
+      must "status $status, not 1" [ "$status" -eq 1 ]
+    fi
+  done
+}
 # In a folder as /tmp is, where only the owner of a file may replace it: the pictures are replaced all or not at all.
 sticky() {
   [ "$(id -u)" = 0 ] || return 0
@@ -719,7 +895,7 @@ TEXT
   stopping stopped "the library is proved" archive -o new
   {
     flock 9
-    run "draw, Ctrl-C while it waits for another that proves" "${careful[@]}" after 1 faked/rovinuset draw 640 800 clean.pcl -o new/deep 9>&-
+    run "draw, Ctrl-C while it waits for another that proves" "${careful[@]}" after 1 INT faked/rovinuset draw 640 800 clean.pcl -o new/deep 9>&-
   } 9>faked/target/rovinuset.lock
   must "status $status, not 2" [ "$status" -eq 2 ]
   must "does not say it" [ "$(tail -n 1 errors)" = "rovinuset: draw: not written: stopped" ]
@@ -746,28 +922,59 @@ as_told() {
 }
 # At any moment, from the first on: the earlier drawing or the whole new one, and no word of Python's.
 stopped_early() {
-  local moment
+  local moment signals
   call draw 640 800 three.pcl -o before
   call draw 640 800 paper.pcl -o behind
   cp -a before work
   PATH=$room/hook:$PATH STEP="0 INT $room/steps.log" run "draw, Ctrl-C while Python starts" "${command[@]}" draw 640 800 paper.pcl -o work
   [ "$status" -eq 130 ] && [ ! -s errors ] || one_line 2 "rovinuset: draw: not written: stopped"
   must "the earlier one is another" same work before
-  for moment in 0 0.01 0.02 0.03 0.04 0.05 0.06 0.07 0.08 0.09 0.1 0.12 0.14 0.16; do
-    rm -rf work
-    cp -a before work
-    run "draw, Ctrl-C after $moment seconds" "${careful[@]}" after $moment "${command[@]}" draw 640 800 paper.pcl -o work
-    case $status in
-    1) ;;
-    130) must "says something" [ ! -s errors ] ;; # it had not begun
-    *) one_line 2 "stopped" ;;
-    esac
-    as_told
+  for signals in INT INT+TERM HUP+INT+TERM; do
+    for moment in 0 0.01 0.02 0.03 0.04 0.05 0.06 0.07 0.08 0.09 0.1 0.12 0.14 0.16; do
+      rm -rf work
+      cp -a before work
+      run "draw, $signals after $moment seconds" "${careful[@]}" after $moment $signals "${command[@]}" draw 640 800 paper.pcl -o work
+      case $status in
+      1) must "says: $(cat errors)" [ ! -s errors ] ;;
+      129 | 130 | 143) must "says something" [ ! -s errors ] ;; # it had not begun
+      *) one_line 2 "stopped" ;;
+      esac
+      as_told
+    done
   done
 }
-# unmixed FOLDER: if findings.txt is there, all pictures are of its job.
+# Where there is no memory for what a program says, it is not left waiting for a reader.
+no_memory() {
+  local word
+  for ((word = 0; word < 8000; word++)); do printf '\33&f1S'; done >faults.pcl # its lines are longer than a pipe
+  for word in "draw -o folder" "record -o file" "plain -o file" report; do
+    PATH=$room/hook:$PATH STEP="0 MEMORY $room/steps.log" run "$word, no memory" timeout 20 "${command[@]}" $word 640 800 faults.pcl
+    refuses "rovinuset: ${word%% *}: not written: not enough memory"
+    absent folder file
+  done
+}
+# limited LIMIT WORDS..: the call under this limit.
+limited() {
+  run "$*" timeout 20 bash -c 'ulimit $1 && shift && exec "$@"' - "$1" "${command[@]}" "${@:2}"
+}
+# Too little for Python to start, which ends with 1 itself: that is said.
+limits() {
+  local limit
+  for limit in "-v 20000" "-v 60000" "-d 6000" "-d 60000"; do
+    limited "$limit" draw 640 800 paper.pcl -o folder
+    refuses "rovinuset: not enough memory: ulimit ${limit% *} is ${limit#* }"
+  done
+  limited "-n 12" draw 640 800 paper.pcl -o folder
+  refuses "rovinuset: not enough open files: ulimit -n is 12"
+  for limit in "-n "{4..40} "-v "{7000..12000..1000} "-d "{500..3000..500}; do # at the least of these nothing may start that could say it
+    limited "$limit" draw 640 800 paper.pcl -o folder
+    must "status 1, and nothing is drawn" [ "$status" -ne 1 -o -e folder/findings.txt ]
+    rm -rf folder
+  done
+}
+# unmixed FOLDER: if findings.txt is there, in it or below, all pictures are of its job.
 unmixed() {
-  [ ! -e "$1/findings.txt" ] || shown "$1" before || shown "$1" behind
+  [ -z "$(find "$1" -name '.rovinuset-*' -prune -o -name findings.txt -print)" ] || shown "$1" before || shown "$1" behind
 }
 # stepped ACTION WORDS..: the call with a signal, or a fault, at each single move or removal of a file; each time over `before`, in `work`. Then judged.
 stepped() {
@@ -819,6 +1026,10 @@ at_each_step() {
   call draw 640 800 short.pcl -o behind
   for action in TERM KILL FAIL; do stepped $action draw 640 800 short.pcl -o work; done
   rm -rf before behind
+  mkdir before # the same where the folder, and one above it, are not there
+  call draw 640 800 short.pcl -o behind/new/deep
+  for action in TERM KILL FAIL; do stepped $action draw 640 800 short.pcl -o work/new/deep; done
+  rm -rf before behind
   mkdir before behind
   call record 640 800 three.pcl -o before/file
   call record 640 800 paper.pcl -o behind/file
@@ -837,6 +1048,8 @@ words() {
     case $word in draw | record) more="-o none" ;; *) more="" ;; esac
     call $word clean.pcl three.pcl $more
     refuses "rovinuset: $word takes one job, and here are two: clean.pcl, three.pcl"
+    call $word clean.pcl three.pcl paper.pcl short.pcl $more
+    refuses "rovinuset: $word takes one job, and here are 4: clean.pcl, three.pcl, paper.pcl, short.pcl"
     call $word -x $more
     refuses "rovinuset: no such option: -x (a file of that name is ./-x)"
     call $word -640 800 clean.pcl $more
@@ -1139,8 +1352,8 @@ add() {
   checks=$((checks + more)) failed=$((failed + wrong))
 }
 
-one=(closed_and_full reader_gone into_output broken_checkout unprivileged two_draws many_at_once two_builds own_names own_job earlier_stays sticky)
-other=(stopped stopped_early at_each_step words names kinds read_only building without_kit)
+one=(closed_and_full reader_gone into_output descriptors broken_checkout unprivileged two_draws together many_at_once two_builds own_names own_job earlier_stays masked sticky)
+other=(stopped stopped_early no_memory limits at_each_step words names kinds read_only building without_kit)
 if [ $# -gt 0 ]; then one=("$@") other=(); fi
 tried one "${one[@]}" & # both halves beside each other
 tried other "${other[@]}" >"$rooms/other.said" 2>&1 &

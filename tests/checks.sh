@@ -1,4 +1,8 @@
 # Checks of the one command, as a user gives it. To be sourced at the project's root. A line for each failed check.
+export LC_ALL=C
+. tests/need.sh
+. tests/x86.sh
+need python3 python3
 project=$PWD
 command=("$project/rovinuset")
 checks=0 failed=0 said=""
@@ -7,6 +11,8 @@ checks=0 failed=0 said=""
 # What is said of the page where no page is given.
 default="page 2552 by 3304 dots, the default: a paper (a4, letter, legal, a5) or W H chooses another"
 
+# papers: the papers by name, with their dots.
+papers() { printf '%s\n' "a4 2480 3508" "letter 2552 3300" "legal 2552 4200" "a5 1752 2480"; }
 # right TEXT COMMAND..: the command must succeed; TEXT says what is wrong if it does not.
 right() {
   local text=$1

@@ -3,11 +3,7 @@
 # A line for each failed check, then the count. Exit status 1 on a failure.
 set -eu
 cd "$(dirname "$0")/.."
-export LC_ALL=C
-. tests/need.sh
-. tests/x86.sh
 . tests/checks.sh
-need python3 python3
 need xz xz-utils
 root=$PWD second=$PWD/second/target/release/second corpus=$PWD/tests/vectors/corpus
 for name in report pages plain; do proved_program "$name"; done
@@ -149,10 +145,26 @@ quietly
 call report 640 800 longer
 gives 2 longer.txt
 in_words "rovinuset: report: refused, number 12: job longer than 1,048,576 bytes"
-printf 'SIZE\t641\t800\nREFUSED\t10\n' >wanted
-call report 641 800 paper.pcl
-gives 2 wanted
-in_words "rovinuset: report: refused, number 10: page measure not allowed"
+# SIZE has the measure as it was given, up to a million. Nothing takes the memory of such a page, 125 GB.
+while read -r wide high size; do
+  printf "SIZE\\t$size\\nREFUSED\\t10\\n" >wanted
+  call report $wide $high paper.pcl
+  gives 2 wanted
+  in_words "rovinuset: report: refused, number 10: page measure not allowed"
+  call pages $wide $high paper.pcl
+  right "status $status, not 2" [ "$status" -eq 2 ]
+  right "other lines: $(cat errors)" cmp -s wanted <(grep '^[A-Z]' errors)
+  for word in plain "draw -o measured"; do
+    call $word $wide $high paper.pcl
+    refuses "rovinuset: ${word%% *}: refused, number 10: page measure not allowed"
+  done
+done <<'TEXT'
+641 800 641\t800
+0 00 0\t0
+99999 100000 99999\t100000
+999999 1000000 999999\t1000000
+1000001 98765432109876543210 1000000\t1000000
+TEXT
 
 # ---- papers: a name stands where W and H do.
 { printf '\33*b600W'; head -c 600 /dev/zero | tr '\0' '\1'; } >row.pcl # wider than any of them: it is cut at the page's width
@@ -173,12 +185,7 @@ while read -r paper wide high; do
   gives 0 lines
   call report $paper - <row.pcl
   gives 0 lines
-done <<'PAPERS'
-a4 2480 3508
-letter 2552 3300
-legal 2552 4200
-a5 1752 2480
-PAPERS
+done < <(papers)
 # A file with a paper's name is given with its folder.
 cp paper.pcl a4
 call report ./a4
@@ -456,7 +463,7 @@ refuses "no such file: -o"
 call
 ends 0 "$(tail -n 1 printed)"
 cp printed usage
-for word in --help -h help; do
+for word in --help -h help "help help" "help --help" "help -h"; do
   call $word
   gives 0 usage
   quietly

@@ -1,21 +1,17 @@
 #!/usr/bin/env bash
 # jobs.sh [COUNT]: a folder of jobs recorded on all processors, by the command line that README.md has for it: 500 jobs, or another multiple of 50, cut out of
-# real streams, some clean, some with findings, some refused, some that cannot be read, under names with spaces. The exit status of each must be what the second
+# real streams, some clean, some with findings, some refused, some that cannot be read, under names of any bytes. The exit status of each must be what the second
 # program says of it, and no record may be another than that of the job recorded alone. A line for each failed check, then the count and the time. Exit status 1
 # on a failure.
 set -eu
 cd "$(dirname "$0")/.."
-export LC_ALL=C
-. tests/need.sh
-. tests/x86.sh
 . tests/checks.sh
-need python3 python3
 count=${1-500} root=$PWD second=$PWD/second/target/release/second
 for name in pages plain; do proved_program "$name"; done
 (cd second && cargo build --release --offline --quiet)
 room=$(mktemp -d)
 trap 'chmod -R u+rwx "$room"; rm -rf "$room"' EXIT
-line='find jobs -name '\''*.pcl'\'' -print0 | xargs -0 -P "$(nproc)" -I JOB sh -c '\''./rovinuset record "$1" -o "$1.html" >"$1.txt" 2>&1; printf "%s\t%s\n" "$?" "$1"'\'' - JOB >statuses'
+line='find jobs -name '\''*.pcl'\'' -print0 | xargs -0 -P "$(nproc)" -I JOB sh -c '\''./rovinuset record "$1" -o "$1.html" >"$1.txt" 2>&1; env printf "%s\t%q\n" "$?" "$1"'\'' - JOB >statuses'
 said="README.md"
 right "the command line is another" grep -qxF "    \$ $line" README.md
 # Out of the project, where ./rovinuset is the command all the same.
@@ -67,11 +63,12 @@ def jobs():
             )
 
 
-with open("wanted", "w") as wanted:
+with open("wanted", "wb") as wanted:
     for number, (kind, job) in enumerate(jobs()):
         folder = f"jobs/machine {number % 7}/{kind}"
         os.makedirs(folder, exist_ok=True)
-        name = f"{folder}/a {kind} job, '{number}' $x.pcl"
+        odd = ("\n1\t", "\udcff", "")[number % 3] if kind == "plain" else ""
+        name = f"{folder}/-a {kind} job, {odd}'{number}' $x.pcl"
         ended = status(job)
         if kind == "folder":
             os.mkdir(name)
@@ -82,11 +79,14 @@ with open("wanted", "w") as wanted:
                 file.write(job)
         if kind == "shut":
             os.chmod(name, 0)
-        print(2 if kind in ("folder", "link", "shut") else ended, name, sep="\t", file=wanted)
+        ended = 2 if kind in ("folder", "link", "shut") else ended
+        wanted.write(b"%d\0%s\0" % (ended, os.fsencode(name)))
 TEXT
 python3 make.py "$root/tests/vectors" "$second" "$count"
+mapfile -d '' -t wanted <wanted # a status, a name, a status, ..
+env printf '%s\t%q\n' "${wanted[@]}" | sort >wanted
 said="the jobs"
-right "not $count" [ "$(find jobs -name '*.pcl' | wc -l)" -eq "$count" ]
+right "not $count" [ "$(find jobs -name '*.pcl' -printf x | wc -c)" -eq "$count" ]
 for ended in 0 1 2; do right "too few end by $ended: $(cut -f 1 wanted | grep -cx $ended)" [ "$(cut -f 1 wanted | grep -cx $ended)" -ge $((count / 25)) ]; done
 
 as_given=() # root may read everything
@@ -97,11 +97,20 @@ took=$((${EPOCHREALTIME/./} - ${began/./}))
 right "status $status, not 0" [ "$status" -eq 0 ]
 right "says: $(cat errors)" [ ! -s errors ]
 right "not $count lines: $(wc -l <statuses)" [ "$(wc -l <statuses)" -eq "$count" ]
-right "other statuses than the second program's: $(diff <(sort wanted) <(sort statuses) | head -n 5)" cmp -s <(sort wanted) <(sort statuses)
+right "other statuses than the second program's: $(diff wanted <(sort statuses) | head -n 5)" cmp -s wanted <(sort statuses)
+while read -r ended chosen; do
+  said="README.md, $chosen"
+  right "is not there" grep -qF "\`awk '$chosen' statuses\`" "$root/README.md"
+  right "has other jobs" cmp -s <(awk "$chosen" statuses | sort) <(grep "^$ended$(printf '\t')" wanted)
+done <<'TEXT'
+1 $1 == 1
+2 $1 > 1
+TEXT
 
 # Each has what it says beside it; and a record, unless it cannot be read.
-lacking=0 records=0
-while IFS=$'\t' read -r ended job; do
+lacking=0 records=0 readable=()
+for ((number = 0; number < count; number++)); do
+  ended=${wanted[2 * number]} job=${wanted[2 * number + 1]}
   case $job,$ended in
   */shut/*,*) words="rovinuset: no permission to read: $job" ;;
   */folder/*,*) words="rovinuset: a directory, not a job: $job" ;;
@@ -116,11 +125,11 @@ while IFS=$'\t' read -r ended job; do
   case $job in
   */shut/* | */folder/* | */link/*) [ ! -e "$job.html" ] || { said=$job && right "has a record" false; } ;;
   *)
-    records=$((records + 1))
+    records=$((records + 1)) readable+=("$number")
     [ "$(tail -n 1 "$job.html")" = "</html>" ] || { said=$job && right "has no whole record" false; }
     ;;
   esac
-done <wanted
+done
 said="the records"
 right "$lacking say something else" [ "$lacking" -eq 0 ]
 right "$records records, not $((count - count / 50))" [ "$records" -eq $((count - count / 50)) ]
@@ -129,12 +138,12 @@ right "other files are left: $(find jobs ! -name '*.pcl' ! -name '*.pcl.html' ! 
 
 # A record does not hang on what else is recorded at the time: one in 25 of them alone, byte for byte.
 alone=0
-while IFS=$'\t' read -r ended job; do
-  alone=$((alone + 1))
+for ((each = 11; each < records; each += 24)); do
+  ended=${wanted[2 * readable[each]]} job=${wanted[2 * readable[each] + 1]} alone=$((alone + 1))
   call record "$job" -o alone.html
   right "status $status, not $ended" [ "$status" -eq "$ended" ]
   right "another record" cmp -s alone.html "$job.html"
-done < <(grep -v '/\(shut\|folder\|link\)/' wanted | awk 'NR % 24 == 12')
+done
 said="alone" && right "$alone, not $((count / 25))" [ "$alone" -eq $((count / 25)) ]
 
 echo "jobs: $count jobs on $(nproc) processors in $((took / 1000000)) seconds, $((took / count / 1000)) ms each"

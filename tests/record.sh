@@ -3,10 +3,7 @@
 # statuses, wrong words, and disks that are full. A line for each failed check, then the count. Exit status 1 on a failure. record.sh pictures writes the pictures of docs/ instead.
 set -eu
 cd "$(dirname "$0")/.."
-export LC_ALL=C
-. tests/need.sh
 . tests/checks.sh
-need python3 python3
 need chromium chromium
 need tidy tidy
 root=$PWD
@@ -19,7 +16,6 @@ if [ "${1-}" = pictures ]; then
   ./rovinuset draw "$curve" -o "$room" || [ $? -eq 1 ]
   python3 -B tests/recorded.py pictures chromium "$room/record.html" docs
   cp "$room/page-1.png" docs/damaged-curve.png
-  . tests/x86.sh
   printf '#!/bin/sh\nexec %s "%s" "$@"\n' "${x86_emulator:+"\"$x86_emulator\""}" "$root/target/bin/pages" >"$room/pages"
   chmod +x "$room/pages"
   while read -r job picture; do python3 -B tests/upright.py "$room/pages" "tests/vectors/$job.pcl" "docs/curve-$picture.png"; done <<'JOBS'
@@ -72,7 +68,11 @@ right "the record does not say so" grep -q 'This job is empty: it has no bytes.'
 call record 641 800 clean.pcl -o record.html
 refuses "rovinuset: record: refused, number 10: page measure not allowed"
 right "the record does not say the refusal" grep -q 'This job was refused, number 10' record.html
+page_is "641 by 800 dots"
 whole record.html
+call record 123456 98765432109876543210 clean.pcl -o record.html
+refuses "rovinuset: record: refused, number 10: page measure not allowed"
+page_is "123,456 by a million or more dots"
 head -c 1048577 /dev/zero >long.pcl
 call record long.pcl -o record.html
 refuses "rovinuset: record: refused, number 12: job longer than 1,048,576 bytes"

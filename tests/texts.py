@@ -1,5 +1,6 @@
 """How many text bytes a job has that move the cursor and are not drawn, by the second program's trace alone: it says where each item begins and how long
-it is, and what it is by its bytes. A space is none of them, nor is a code; those in the payload of &p#X are counted, which moves as text."""
+it is, and what it is by its bytes. A space is none of them, nor is a code; but the payload of &p#X moves as text, whatever bytes it has: there all but
+spaces are counted."""
 
 import re
 import subprocess
@@ -38,7 +39,7 @@ def text_bytes(job, lines):
             command = COMMAND.match(item)
             head, letter = sequence or command.groups()[:2], command[3]
             if (head, letter.upper(), finding) == ((b"&", b"p"), b"X", 0):
-                count += sum(map(is_text, item[command.end() :]))
+                count += sum(byte != 32 for byte in item[command.end() :])
             sequence = head if b"`" <= letter else None
     return count
 

@@ -28,7 +28,8 @@ def archive(given):
         return ending.CLEAN
     if not same(MADE, data):
         goal.Goal(MADE, "archive").write(data)
-    ending.tell("archive", 1, files.printed(MADE), told(MADE))
+    into_it = goal.is_output(goal.found(MADE))
+    ending.tell("archive", 2 if into_it else 1, files.printed(MADE), told(MADE))
     return ending.CLEAN
 
 

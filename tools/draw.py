@@ -4,6 +4,7 @@ The folder always tells of one job. What is drawn is made in a hidden folder of 
 findings.txt) when it is whole; a job that is refused or cannot be read, or a drawing that fails, leaves the earlier one as it was. Other files stay.
 """
 
+import errno
 import fcntl
 import hashlib
 import os
@@ -22,6 +23,7 @@ import telling
 
 TAKES = {"-o": "where to write", "--pages": "a number of pages or a range, as 20 or 3-7,"}
 TRIES = 100
+FASTER = (errno.ENOENT, errno.EEXIST, errno.ENOTEMPTY)  # another has removed or made a folder in between
 PICTURES = 1000  # drawn if nothing else is said; all are counted
 MINE = re.compile(r"page-[1-9][0-9]*\.png|findings\.txt")
 RANGE = re.compile(r"(?:([1-9][0-9]{0,8})-)?([1-9][0-9]{0,8})")
@@ -38,29 +40,64 @@ def wanted_pages(call):
 
 
 class Folder:
-    """The folder of a drawing. It is locked: nobody else draws in it as long as this command goes on."""
+    """The folder of a drawing. If it is there it is locked: nobody else draws in it as long as this command goes on. If not, nothing is seen of it before the
+    drawing is whole. What is drawn is made in a hidden folder: in it, or beside the first of those that are missing."""
 
-    def __init__(self, path, call):
-        self.path, self.call = path, call
-        self.number = self.locked()
-        self.check()
-        self.room, _ = files.make_beside(path, lambda name: os.mkdir(name, 0o700))
+    def __init__(self, call):
+        self.call, self.path, self.number = call, straight(call.goal), None
+        if self.taken():
+            self.hidden = self.drawn = self.room
+            self.check()
+        else:
+            self.begin()
 
-    def locked(self):
+    def taken(self):
+        """Locks it and makes a room in it, if it is there."""
+        if not os.path.isdir(self.path):
+            return False
+        try:
+            number = lock(self.path)
+            self.room, _ = files.make_beside(self.path, lambda name: os.mkdir(name, 0o700))
+            same = os.path.samestat(os.fstat(number), os.stat(self.path))
+        except FileNotFoundError:
+            return False
+        except BlockingIOError:
+            raise ending.Wrong(f"draw: another draw is writing in: {files.printed(self.call.goal)}") from None
+        if not same:  # the one that is locked has gone, and there is another
+            files.drop(self.room)
+            return False
+        self.number = number
+        return True
+
+    def begin(self):
+        """The missing folders, the outermost with a hidden name."""
+        above, self.names = split(self.path)
+        try:
+            self.hidden, _ = files.make_beside(above, os.mkdir)
+            self.drawn = os.path.join(self.hidden, *self.names[1:])
+            os.makedirs(self.drawn, exist_ok=True)
+        except OSError as error:
+            raise self.cannot_be_made(error.strerror) from error
+
+    def cannot_be_made(self, why):
+        return ending.Wrong(f"the folder cannot be made: {files.printed(self.call.goal)}: {why}")
+
+    def placed(self):
+        """Moves what is missing into its place, as one. If the folder is there by now it is locked instead."""
         for _ in range(TRIES):
-            make_folders(self.path)
+            if self.taken():
+                if self.earlier():
+                    raise ending.Wrong(f"draw: another draw has written in: {files.printed(self.call.goal)}")
+                return False
+            above, missing = split(self.path)
+            there = len(self.names) - len(missing)  # made by others since
             try:
-                number = os.open(self.path, os.O_RDONLY | os.O_DIRECTORY | os.O_CLOEXEC)
-                fcntl.flock(number, fcntl.LOCK_EX | fcntl.LOCK_NB)
-                if os.path.samestat(os.fstat(number), os.stat(self.path)):
-                    return number
-            except BlockingIOError:
-                files.UNUSED.clear()  # it is the other's now
-                raise ending.Wrong(f"draw: another draw is writing in: {files.printed(self.path)}") from None
-            except FileNotFoundError:
-                pass
-            # Another made it, failed and removed it: once more.
-        raise ending.Wrong(f"the folder cannot be made: {files.printed(self.path)}")
+                os.rename(os.path.join(self.hidden, *self.names[1 : there + 1]), os.path.join(above, *missing[:1]))
+                return True
+            except OSError as error:
+                if error.errno not in FASTER:
+                    raise
+        raise self.cannot_be_made(os.strerror(errno.ENOENT))
 
     def earlier(self):
         """The files of an earlier drawing, findings.txt first."""
@@ -75,25 +112,30 @@ class Folder:
                 raise ending.Wrong(f"draw: the job lies where the drawing would be written: {files.printed(path)}")
 
     def write(self, name, data):
-        files.write_new(os.path.join(self.room, name), data)
+        files.write_new(os.path.join(self.drawn, name), data)
+
+    def finish(self):
+        """The drawing in its place."""
+        with stopping.held(writing=self.call.goal):
+            if self.number is not None or not self.placed():
+                self.replace()
+                files.drop(self.room)
+            files.drop(self.hidden)
 
     def replace(self):
         """The new drawing in the place of the earlier one. findings.txt goes first and comes last, and no picture comes before the last has gone: at no moment
         are there files of both. Where one cannot be moved, all are moved back."""
-        earlier, drawn, moved = os.path.join(self.room, "earlier"), sorted(os.listdir(self.room), reverse=True), []
-        with stopping.held(writing=self.path):
-            try:
-                os.mkdir(earlier)
-                for name in self.earlier():
-                    move(self.path, earlier, name, moved)
-                for name in drawn:
-                    move(self.room, self.path, name, moved)
-            except OSError:
-                for home, there, name in reversed(moved):
-                    os.rename(os.path.join(there, name), os.path.join(home, name))
-                raise
-            files.UNUSED.clear()
-            files.drop(self.room)
+        earlier, drawn, moved = os.path.join(self.room, "earlier"), sorted(os.listdir(self.drawn), reverse=True), []
+        try:
+            os.mkdir(earlier)
+            for name in self.earlier():
+                move(self.path, earlier, name, moved)
+            for name in drawn:
+                move(self.drawn, self.path, name, moved)
+        except OSError:
+            for home, there, name in reversed(moved):
+                os.rename(os.path.join(there, name), os.path.join(home, name))
+            raise
 
 
 def move(home, there, name, moved):
@@ -101,21 +143,26 @@ def move(home, there, name, moved):
     moved.append((home, there, name))
 
 
-def make_folders(path):
-    """The folder and those above it that are not there."""
-    missing, above = [], path
+def lock(path):
+    """Opens the folder, and locks it as long as it is open."""
+    number = os.open(path, os.O_RDONLY | os.O_DIRECTORY | os.O_CLOEXEC)
+    fcntl.flock(number, fcntl.LOCK_EX | fcntl.LOCK_NB)
+    return number
+
+
+def split(path):
+    """Of a path's folders the innermost that is there, by no name if it is the current one, and the names of those below it."""
+    above = path
     while above and not os.path.lexists(above):
-        missing.append(above)
         above = os.path.dirname(above)
-    for folder in reversed(missing):
-        try:
-            with stopping.held():
-                os.mkdir(folder)
-                files.UNUSED.append(folder)
-        except FileExistsError:
-            pass  # another was faster
-        except OSError as error:
-            raise ending.Wrong(f"the folder cannot be made: {files.printed(path)}: {error.strerror}") from error
+    below = os.path.normpath(path[len(above) :].strip(os.sep))
+    return above, [] if below == os.curdir else below.split(os.sep)
+
+
+def straight(path):
+    """The path without a detour by what is not there: x/../y is y, if there is no x."""
+    above, names = split(path)
+    return os.path.join(above, *names) or os.curdir
 
 
 def check_goal(goal):
@@ -197,7 +244,7 @@ class Drawing:
 
 def draw(call, programs):
     drawing = Drawing(call, programs)
-    folder = Folder(call.goal, call)
+    folder = Folder(call)
     with progress.Progress(lambda: telling.so_far(call, drawing.lines)):
         drawing.draw(folder)
         lines = drawing.lines
@@ -205,7 +252,7 @@ def draw(call, programs):
             return telling.refused("draw", lines.refused)
         drawing.letters = programs.letters()
         folder.write("findings.txt", "".join(f"{line}\n" for line in drawing.told()).encode("utf-8", "surrogateescape"))
-        folder.replace()
+        folder.finish()
     notices = (*telling.of_job(call, lines, drawing.letters), *telling.of_page(call), *drawing.left_out())
     written = files.printed(call.goal)
     ending.tell("draw", 1, written, telling.summary(lines, notices, written))

@@ -8,18 +8,12 @@ import stat
 import stopping
 
 UNMOVED = set()  # what this command made and has not moved into its place: at the end it is removed
-UNUSED = []  # folders that it made and that nothing is in yet, the outermost first
 
 
 def tidy():
     """Removes what is in progress. At the end, when no signal can come between."""
     for path in list(UNMOVED):
         drop(path)
-    for folder in reversed(UNUSED):
-        try:
-            os.rmdir(folder)
-        except OSError:
-            break  # another has put something in it
 
 
 def drop(path):

@@ -17,6 +17,7 @@ BITS = bytes(bin(byte).count("1") for byte in range(256))
 COMMAND = re.compile(rb"\x1b(?:[&*][a-z][+-]?([0-9]*)[0-9.]*[A-Z]|[0-~])")
 PAYLOAD = (b"*b", b"W"), (b"&p", b"X")
 NOT_TEXT = bytes((*range(33), 127))  # codes, and the space, which is no letter
+SPACE = b" "
 
 
 class Broken(Exception):
@@ -50,6 +51,28 @@ def listen(pipe, lines):
         lines.take(line.decode("ascii", "replace"))
 
 
+class Listener(threading.Thread):
+    """Takes the program's lines while its pages are read. Where it cannot, the program is not left waiting for it."""
+
+    def __init__(self, pipe, lines):
+        super().__init__(daemon=True)
+        self.pipe, self.lines, self.error = pipe, lines, None
+        self.start()
+
+    def run(self):
+        try:
+            listen(self.pipe, self.lines)
+        except Exception as error:
+            self.error = error
+        self.pipe.close()
+
+    def heard(self):
+        """Waits for the last line."""
+        self.join()
+        if self.error is not None:
+            raise self.error
+
+
 def from_pipe(pipe, header, size):
     """The pictures of a pipe, one after the other, without their headers."""
     while True:
@@ -80,14 +103,18 @@ class Programs:
 
     def pages(self, lines):
         """Yields each page's bytes and dots as the program hands it over. Its lines go to `lines`, which are whole when the last page was given."""
-        blank, dots = bytes(self.width // 8 * self.height), []
+        size, blank, dots = self.width // 8 * self.height, None, []
         with programs.fed(self.words(), self.job, stdout=subprocess.PIPE, stderr=subprocess.PIPE) as process:
-            beside = threading.Thread(target=listen, args=(process.stderr, lines), daemon=True)
-            beside.start()
-            for page in from_pipe(process.stdout, b"P4\n%d %d\n" % (self.width, self.height), len(blank)):
-                dots.append(0 if page == blank else sum(page.translate(BITS)))  # a job may have a million blank ones
-                yield page, dots[-1]
-            beside.join()
+            beside = Listener(process.stderr, lines)
+            try:
+                for page in from_pipe(process.stdout, b"P4\n%d %d\n" % (self.width, self.height), size):
+                    blank = blank or bytes(size)  # not for a measure that is refused
+                    dots.append(0 if page == blank else sum(page.translate(BITS)))  # a job may have a million blank ones
+                    yield page, dots[-1]
+            except Broken:
+                beside.heard()  # this may be why
+                raise
+            beside.heard()
         agreed(lines, dots)
         if len(dots) < len(lines.dots):
             raise Broken("its lines have more pages than it gave")
@@ -119,11 +146,11 @@ class Programs:
 
 
 def letters_in(stream):
-    """The text bytes of a plain stream: what is no command, and the payload of &p#X."""
+    """The text bytes of a plain stream: what is no command and no code, and all payload of &p#X, which moves as text. Spaces are left out."""
     count, at = 0, 0
     while True:
         escape = stream.find(b"\x1b", at)
-        count += count_letters(stream[at : escape if escape >= 0 else len(stream)])
+        count += count_without(NOT_TEXT, stream[at : escape if escape >= 0 else len(stream)])
         if escape < 0:
             return count
         command = COMMAND.match(stream, escape)
@@ -133,9 +160,9 @@ def letters_in(stream):
         name = (command[0][1:3], command[0][-1:])
         if name in PAYLOAD:
             end = at + int(command[1] or 0)
-            count += count_letters(stream[at:end]) if name == (b"&p", b"X") else 0
+            count += count_without(SPACE, stream[at:end]) if name == (b"&p", b"X") else 0
             at = end
 
 
-def count_letters(part):
-    return len(part.translate(None, NOT_TEXT))
+def count_without(signs, part):
+    return len(part.translate(None, signs))

@@ -3,7 +3,6 @@
 `pages` says what is found in the job, its pages go nowhere; `plain` gives the stream. Nothing is passed on of a job that could not be read or is refused.
 """
 
-import ending
 import findings
 import telling
 
@@ -18,5 +17,5 @@ def plain(call, programs, goal):
         return telling.refused("plain", refused)
     goal.write(stream)
     if lines.places:
-        ending.tell("plain", 2, goal.said(), telling.summary(lines, telling.of_page(call), f"passed on as {len(stream)} bytes"))
+        goal.summary("plain", telling.summary(lines, telling.of_page(call), f"passed on as {len(stream)} bytes"), 2)
     return telling.ended(call, lines)

@@ -6,6 +6,7 @@ import os
 from html import escape
 
 import findings
+import words
 from findings import DAMAGED_ROW, FINDINGS, REFUSALS
 
 BYTES_SHOWN = 16
@@ -83,6 +84,8 @@ def heading(facts):
 
 def page_measure(facts):
     width, height = facts.width, facts.height
+    if facts.lines.refused == 10:  # no paper has it
+        return " by ".join(f"{number:,}" if number < words.MILLION else "a million or more" for number in (width, height)) + " dots"
     size = f"{millimetres(width * UNITS_A_DOT)} by {millimetres(height * UNITS_A_DOT)}"
     return f"{width:,} by {height:,} dots, 300 an inch ({size}){facts.call.page()}"
 

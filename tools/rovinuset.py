@@ -122,6 +122,7 @@ def main(word, *given):
     try:
         try:
             stopping.watch()
+            os.umask(os.umask(0o077) & 0o077)  # one that takes the owner's own rights would leave what cannot be removed
             status = done(word, given)
         finally:
             stopping.over()

@@ -9,12 +9,15 @@ SIGNALS = (signal.SIGINT, signal.SIGTERM, signal.SIGHUP)
 class Asked:
     """Whether it was asked to stop, and whether that has to wait. Written: what is in its place already, so that a stop comes too late for it."""
 
-    held = pending = False
+    over = held = pending = False
     written = None
 
 
 def ask(*_):
-    over()  # once is enough: a second one would break off the tidying
+    """Once is enough: a second one would break off the tidying. (The handlers stay: Python has words of its own for a signal that comes while they change.)"""
+    if Asked.over:
+        return
+    Asked.over = True
     if Asked.held:
         Asked.pending = True
     else:
@@ -31,8 +34,7 @@ def watch():
 
 def over():
     """From here on no signal stops it."""
-    for number in SIGNALS:
-        signal.signal(number, signal.SIG_IGN)
+    Asked.over = True
 
 
 @contextmanager

@@ -12,6 +12,7 @@ import pages
 # At 300 dots an inch: 210 x 297 mm, 8.5 x 11 inches, 8.5 x 14 inches, 148 x 210 mm. A page's width is a multiple of 8: up to the next one.
 PAPERS = {"a4": (2480, 3508), "letter": (2552, 3300), "legal": (2552, 4200), "a5": (1752, 2480)}
 DEFAULT = (2552, 3304)
+MILLION = 1000000
 NUMBER = re.compile("[0-9]+")
 STANDARD_INPUT = ("-", "/dev/stdin", "/dev/fd/0", "/proc/self/fd/0")
 
@@ -45,11 +46,11 @@ def no_option(one):
 
 
 def dots(text):
-    """A number of dots. All numbers of more digits than a page can have are as one to the program."""
+    """A number of dots. To the programs all from a million on are as one."""
     if not NUMBER.fullmatch(text):
         raise ending.Wrong(f"not a number of dots: {files.printed(text)}")
     digits = text.lstrip("0")
-    return int(digits or "0") if len(digits) <= 5 else 99999
+    return int(digits or "0") if len(digits) <= 6 else MILLION
 
 
 def measure(word, others):
@@ -58,8 +59,9 @@ def measure(word, others):
         return (*PAPERS[others[0]], others[0]), others[1:]
     if len(others) < 2:
         return (None, None, None), others
-    if len(others) == 2 and not any(map(NUMBER.fullmatch, others)):
-        raise ending.Wrong(f"{word} takes one job, and here are two: {listed(others)}")
+    jobs = len(others) == 2 or os.path.exists(others[0])
+    if jobs and not any(map(NUMBER.fullmatch, others[:2])):
+        raise ending.Wrong(f"{word} takes one job, and here are {'two' if len(others) == 2 else len(others)}: {listed(others)}")
     return (dots(others[0]), dots(others[1]), ""), others[2:]
 
 
