@@ -256,6 +256,14 @@ def records(path, first, second, *command):
     return at_once(contents, path, (first, second), command)
 
 
+def aside():
+    """SIGTERM, when there is no more in standard input and the rest is waited for. That call goes on: as if the signal had come right before it."""
+    until(lambda: waiting(0) == 0)
+    time.sleep(0.5)
+    signal.pthread_sigmask(signal.SIG_UNBLOCK, [signal.SIGTERM])
+    signal.pthread_kill(threading.get_ident(), signal.SIGTERM)
+
+
 def no_memory(*_):
     raise MemoryError
 
@@ -263,13 +271,15 @@ def no_memory(*_):
 def stepwise():
     """$STEP is `NUMBER ACTION FILE`. What this process moves, links or removes is a line in FILE; before the step of this number it gets a signal (TERM,
     KILL) or the step fails (FAIL). SLOW: before every step there is a pause. INT: Ctrl-C comes before the script's first line, as if Python still started.
-    MEMORY: there is none for a program's lines."""
+    MEMORY: there is none for a program's lines. ASIDE: SIGTERM comes and interrupts nothing (`aside`)."""
     number, action, log = os.environ["STEP"].split(" ", 2)
     count = 0
     if action == "MEMORY":
         import findings  # the command's own
 
         findings.Lines.take = no_memory
+    if action == "ASIDE":
+        threading.Thread(target=aside, daemon=True).start()
     if action == "INT":
         signal.signal(signal.SIGINT, signal.default_int_handler)
         os.kill(os.getpid(), signal.SIGINT)

@@ -912,6 +912,19 @@ TEXT
   unchanged kept kept.whole
   unfaked
 }
+# A signal that comes right before a call that waits, and so does not interrupt it, is heard all the same.
+stopped_aside() {
+  local word
+  mkfifo endless
+  exec 3<>endless
+  for word in draw record plain; do
+    cat clean.pcl >&3
+    PATH=$room/hook:$PATH STEP="0 ASIDE $room/steps.log" run "$word, SIGTERM right before it waits" timeout 20 "${command[@]}" $word 640 800 -o new <&3
+    one_line 2 "rovinuset: $word: not written: stopped"
+    absent new
+  done
+  exec 3>&-
+}
 # as_told: `work` is what the call says of it: as `behind`, written, or as `before`, not written.
 as_told() {
   if [ "$status" -eq 1 ] || grep -q 'work.* is written, its summary is not: stopped$' errors; then
@@ -1353,7 +1366,7 @@ add() {
 }
 
 one=(closed_and_full reader_gone into_output descriptors broken_checkout unprivileged two_draws together many_at_once two_builds own_names own_job earlier_stays masked sticky)
-other=(stopped stopped_early no_memory limits at_each_step words names kinds read_only building without_kit)
+other=(stopped stopped_aside stopped_early no_memory limits at_each_step words names kinds read_only building without_kit)
 if [ $# -gt 0 ]; then one=("$@") other=(); fi
 tried one "${one[@]}" & # both halves beside each other
 tried other "${other[@]}" >"$rooms/other.said" 2>&1 &

@@ -1,9 +1,12 @@
 """Being stopped: Ctrl-C, SIGTERM and SIGHUP end the command where that leaves nothing behind."""
 
 import signal
+import threading
+import time
 from contextlib import contextmanager
 
 SIGNALS = (signal.SIGINT, signal.SIGTERM, signal.SIGHUP)
+TICK = signal.SIGURG  # one that nobody minds who does not know it
 
 
 class Asked:
@@ -26,10 +29,20 @@ def ask(*_):
 
 def watch():
     """From here on a signal raises KeyboardInterrupt; they were blocked up to here (./rovinuset). One that is ignored, as nohup does it, stays so."""
+    signal.signal(TICK, lambda *_: None)
+    threading.Thread(target=tick, args=(threading.get_ident(),), daemon=True).start()  # while they are blocked: none goes there
     for number in SIGNALS:
         if signal.getsignal(number) != signal.SIG_IGN:
             signal.signal(number, ask)
-    signal.pthread_sigmask(signal.SIG_UNBLOCK, SIGNALS)
+    signal.pthread_sigmask(signal.SIG_UNBLOCK, (*SIGNALS, TICK))
+
+
+def tick(thread):
+    """Python hears a signal that comes right before a call that waits when that call is over, and there may be no end of it. So none of them waits for long:
+    each is interrupted, looks for signals, and goes on."""
+    while True:
+        time.sleep(0.2)
+        signal.pthread_kill(thread, TICK)
 
 
 def over():
