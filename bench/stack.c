@@ -11,7 +11,7 @@ enum { W = 4800, H = 6800, PAGE = W / 8 * H, WORDS = 1 << 17 };
 
 static const uint64_t pattern = 0xA5C3F00D5EEDBEEFu;
 static uint64_t words[WORDS];
-static uint8_t page[PAGE], state[ROV_STATE], room[1 << 16];
+static uint8_t page[PAGE], state[ROV_STATE], room[1 << 16], text[ROV_PARKED];
 static char made[1 << 16]; /* a stream that is put together here */
 static ucontext_t caller, callee;
 
@@ -20,7 +20,7 @@ static const uint8_t *stream;
 static size_t stream_n, page_n = PAGE, room_n = sizeof room, place, done, found, ended, items, length;
 static uint32_t finding, stopped, refusal; /* of the last call; `stopped` is the last finding that there was */
 
-static size_t wide = W, state_n = ROV_STATE, dots;
+static size_t wide = W, state_n = ROV_STATE, text_n, text_room = ROV_PARKED, read_wide, read_high, dots;
 static bool sound;
 
 static void nothing(void) {}
@@ -39,6 +39,9 @@ static void whole_run(void) {
 }
 
 static void translation(void) { refusal = rov_translate(wide, H, stream, stream_n, room, room_n, &length); }
+
+static void parking(void) { refusal = rov_park(wide, H, state, state_n, text, text_room, &text_n); }
+static void reading(void) { refusal = rov_unpark(text, text_n, &read_wide, &read_high, state, state_n); }
 
 static size_t depth_of(void (*function)(void)) {
     size_t low = 0;
@@ -107,8 +110,8 @@ static void must(int holds, const char *what) {
 }
 
 /* The calls, and the deepest of each so far. */
-enum { AFRESH, SOUND, DOTS, RUN, TRANSLATE, CALLS };
-static const char *const calls[CALLS] = {"rov_afresh", "rov_sound", "rov_dots", "rov_run", "rov_translate"};
+enum { AFRESH, SOUND, DOTS, RUN, TRANSLATE, PARK, UNPARK, CALLS };
+static const char *const calls[CALLS] = {"rov_afresh", "rov_sound", "rov_dots", "rov_run", "rov_translate", "rov_park", "rov_unpark"};
 static size_t most[CALLS];
 
 static size_t deep(int call, void (*function)(void)) {
@@ -123,7 +126,7 @@ struct depths {
 
 static size_t larger(size_t a, size_t b) { return a > b ? a : b; }
 
-/* A stream run and translated from a state afresh; d becomes the deeper of both, each. */
+/* A stream run and translated from a state afresh; d becomes the deeper of both, each. The state at its end is parked and read back. */
 static void measure(struct depths *d, const char *name, const char *bytes, size_t n, uint32_t found_there) {
     must(rov_afresh(W, H, state, ROV_STATE) == 0, "afresh");
     stream = (const uint8_t *)bytes;
@@ -136,6 +139,10 @@ static void measure(struct depths *d, const char *name, const char *bytes, size_
     deep(SOUND, soundness);
     must(sound, name);
     deep(DOTS, count);
+    deep(PARK, parking);
+    must(refusal == 0, name);
+    deep(UNPARK, reading);
+    must(refusal == 0, name);
 }
 
 static void tell(const char *name, struct depths d) { printf("| %s | %zu | %zu |\n", name, d.run, d.translation); }
@@ -221,6 +228,32 @@ static void refusals(void) {
     must(refusal == 0, "afresh");
 }
 
+/* Likewise of a state that is parked and of a text that is read; both are afresh. */
+static void text_refusals(void) {
+    wide = 7;
+    refused(PARK, parking, 10);
+    wide = W;
+    state_n = ROV_STATE - 1;
+    refused(PARK, parking, 13);
+    state_n = ROV_STATE;
+    state[ROV_FIRST] = '&';
+    state[ROV_GROUP] = 'a';
+    refused(PARK, parking, 16);
+    state[ROV_FIRST] = state[ROV_GROUP] = 0;
+    text_room = 0;
+    refused(PARK, parking, 15);
+    text_room = ROV_PARKED;
+    refused(PARK, parking, 0);
+    state_n = ROV_STATE - 1;
+    refused(UNPARK, reading, 13);
+    state_n = ROV_STATE;
+    text[4] = '9'; /* of W: 9,800, and the row has too few pairs */
+    refused(UNPARK, reading, 17);
+    text[4] = '4';
+    text[9] = '9'; /* of H: 9,800 */
+    refused(UNPARK, reading, 18);
+}
+
 int main(void) {
     int first = 0;
     puts("| Item | Run | Translation |\n|---|---|---|");
@@ -234,6 +267,7 @@ int main(void) {
     counts("rows, counts of 1 to 5 digits", "\33*b", 'W', 0xA5);
     counts("transparent text, counts of 1 to 5 digits", "\33&p", 'X', 'a');
     refusals();
+    text_refusals();
     puts("\n| Call, at its deepest | Stack |\n|---|---|");
     for (int i = 0; i < CALLS; i++) {
         printf("| `%s` | %zu |\n", calls[i], most[i]);

@@ -1,7 +1,8 @@
-/* Rovinuset for C and C++: reading PCL, drawing pages, passing a job on as a plain stream. The archive is target/librovinuset.a
- * (./rovinuset archive); docs/DOOR.md has the tables: memory, numbers, how to go on. The calls may be made with any numbers and any bytes.
- * Three things are the caller's: a slice is a pointer and a length, and has that many bytes (it may be empty, its pointer is then not
- * read); `place`, `done`, `finding`, `found`, `ended` and `length` point to numbers; what is lent to one call does not overlap.
+/* Rovinuset for C and C++: reading PCL, drawing pages, passing a job on as a plain stream, parking a job half read. The archive is
+ * target/librovinuset.a (./rovinuset archive); docs/DOOR.md has the tables: memory, numbers, how to go on. The calls may be made with any numbers
+ * and any bytes. Three things are the caller's: a slice is a pointer and a length, and has that many bytes (it may be empty, its pointer is then
+ * not read); `place`, `done`, `finding`, `found`, `ended`, `length`, and `W` and `H` of rov_unpark point to numbers; what is lent to one call does
+ * not overlap.
  * The library has no data of its own and allocates nothing: calls may run at the same time if no two share what one of them writes. */
 #ifndef ROVINUSET_H
 #define ROVINUSET_H
@@ -28,7 +29,7 @@ enum {
     ROV_FINDING_DAMAGED_ROW = 7   /* damaged row: drawn as a row of zeros */
 };
 
-/* What rov_afresh, rov_run and rov_translate give back. Refused: nothing was done. */
+/* What rov_afresh, rov_run, rov_translate, rov_park and rov_unpark give back. Refused: nothing was done. */
 enum {
     ROV_CARRIED_OUT = 0,
     ROV_REFUSED_PAGE_MEASURE = 10,  /* W is a multiple of 8 from 8 to 4,800, H is 1 to 6,800: not so here */
@@ -36,11 +37,15 @@ enum {
     ROV_REFUSED_STREAM_LENGTH = 12, /* stream longer than 1,048,576 bytes */
     ROV_REFUSED_UNSOUND_STATE = 13, /* the bytes are no state that is sound on this page */
     ROV_REFUSED_START_PLACE = 14,   /* start place after the end of the stream */
-    ROV_REFUSED_ROOM = 15           /* plain stream longer than the room, or than 1,048,576 bytes */
+    ROV_REFUSED_ROOM = 15,          /* plain stream or text longer than the room, or plain stream longer than 1,048,576 bytes */
+    ROV_REFUSED_SEQUENCE_OPEN = 16, /* a sequence is open: the state has no text */
+    ROV_REFUSED_TEXT_FORM = 17,     /* text not of the form */
+    ROV_REFUSED_TEXT_STATE = 18     /* text of the form, but its measure is not allowed, or its state not sound on that page */
 };
 
 /* A state between calls, in ROV_STATE bytes that the caller keeps. Numbers are little-endian. The bytes are of this version only, the one that
- * the file VERSION names: another may lay them out otherwise. Keep no state across a change of version. */
+ * the file VERSION names: another may lay them out otherwise. Keep no state across a change of version: what is kept over a power cut and over
+ * versions is its text, by rov_park. */
 #define ROV_STATE 808
 enum {
     ROV_X = 0,            /* 4 bytes; lengths are in 1/7200 inch */
@@ -88,6 +93,23 @@ uint32_t rov_run(size_t W, size_t H, uint8_t *page, size_t page_n, const uint8_t
  * Gives 0: the first *length bytes of the room are the plain stream, the rest of it is untouched. Or the refusal: 10, 12, or 15 (the
  * plain stream is longer than room_n, or than 1,048,576 bytes): the room is untouched, *length is 0. */
 uint32_t rov_translate(size_t W, size_t H, const uint8_t *stream, size_t stream_n, uint8_t *room, size_t room_n, size_t *length);
+
+/* No parked text is longer: a room of so many bytes is always enough. */
+#define ROV_PARKED 1905
+
+/* A state parked: its text, with the page's measure in it, written to the front of the room. Of the state only the first ROV_STATE bytes count. The
+ * page is not in the text, nor is the place: where the page is used (ROV_USED), it is to be kept beside the text. While a sequence is open there is no
+ * text; a run of one item more, and again, comes to where none is, at the latest at the stream's end.
+ * Gives 0: the first *length bytes of the room are the text, the rest of it is untouched. Or the refusal: 10, 13 (also where state_n < ROV_STATE, or
+ * the bytes of `started` or `used` are neither 0 nor 1), 16, or 15 (the text is longer than room_n), the first that applies, in this order: the room
+ * is untouched, *length is 0. */
+uint32_t rov_park(size_t W, size_t H, const uint8_t *state, size_t state_n, uint8_t *room, size_t room_n, size_t *length);
+
+/* A parked text, of any bytes and any length, read back in one pass.
+ * Gives 0: *W and *H are the page's measure, which is allowed, and the state's ROV_STATE bytes are sound on that page, with no sequence open; rov_park
+ * makes just this text of them. Bytes of the state from ROV_STATE on are not written. Or the refusal: 17, 18, or 13 (state_n < ROV_STATE), the first
+ * that applies, in this order: nothing is written, there is no state. */
+uint32_t rov_unpark(const uint8_t *text, size_t text_n, size_t *W, size_t *H, uint8_t *state, size_t state_n);
 
 #ifdef __cplusplus
 }

@@ -68,16 +68,15 @@ check() {
     fi
 }
 
-# refused CODE WORD ..: `trace` refuses on standard output, the others on
-# standard error.
+# refused CODE WORD ..: `pages` and `plain` refuse on standard error, the others
+# on standard output.
 refused() {
     local line="REFUSED$tab$1"
     shift
-    if [ "$1" = trace ]; then
-        check 2 "$line" '' "$@"
-    else
-        check 2 '' "$line" "$@"
-    fi
+    case $1 in
+        pages | plain) check 2 '' "$line" "$@" ;;
+        *) check 2 "$line" '' "$@" ;;
+    esac
 }
 
 : > empty
@@ -94,6 +93,7 @@ sys.stdout.buffer.write(bytes(random.getrandbits(8) for _ in range(200_000)))
 PYTHON
 head -c 65536 random > reportlongest
 head -c 65537 random > reporttoolong
+printf '\033&f0s1S' > pushed
 printf 'T 8 8 1 07 41\n' > cases
 printf 'T 8 8 1 07 41\nT 8 8 1 07 4\n' > badcases
 
@@ -105,6 +105,14 @@ REFUSED${tab}12"
 end_of_8_1="END${tab}0${tab}24${tab}0${tab}192${tab}0${tab}720${tab}1200${tab}0${tab}75${tab}0${tab}0${tab}0${tab}0${tab}0
 SEED${tab}00
 COUNT${tab}0${tab}0"
+parked_8_1="JOB${tab}8${tab}1${tab}0${tab}24${tab}0${tab}192${tab}0${tab}720${tab}1200${tab}0${tab}75${tab}0${tab}0${tab}0${tab}0${tab}0
+ROW${tab}00"
+printf '%s\n' "$parked_8_1" > parked
+tr '\n' '\r' < parked > returns
+sed "s/^JOB${tab}8/JOB${tab}9/" parked > unsound
+sed "s/^JOB${tab}8/JOB${tab}9999999999/" parked > wide
+sed "1s/0\$/9999999999/" parked > deep
+{ cat parked; cat zeros; } > behind
 
 # Nothing to read: an empty input, and a closed one.
 for input in empty closed; do
@@ -112,7 +120,30 @@ for input in empty closed; do
     check 0 '' '' pages 8 1
     check 0 '' '' plain 8 1
     check 0 "$end_of_8_1" '' trace 8 1
+    check 0 "$parked_8_1" '' park 8 1
+    check 0 "$parked_8_1" '' park 8 1 -n 5
+    refused 17 unpark
     check 0 '' '' cases -
+done
+
+# Parked texts: what reads, what is not of the form, what is not sound, and
+# great numbers in a short text.
+input=parked
+check 0 '?' '' unpark
+checks=$((checks + 1))
+[ "$(tail -n 2 out)" = "depth${tab}0
+ROW${tab}00" ] || fail "unpark of a parked text" "last lines"
+for input in one random zeros /dev/zero returns wide deep behind; do
+    refused 17 unpark
+done
+input=unsound
+refused 18 unpark
+
+# A sequence that is open, and one that is not yet or no longer.
+input=pushed
+refused 16 park 8 1 -n 1
+for items in 0 2 3 00002 99999999999999999999999999999999999999999999; do
+    check 0 "$parked_8_1" '' park 8 1 -n $items
 done
 
 # No file of cases, a folder, a bad line, and no case at all.
@@ -130,6 +161,8 @@ check 1 '' line report
 check 1 '' line pages 8 1
 check 1 '' line plain 8 1
 check 1 '' line trace 8 1
+check 1 '' line park 8 1
+check 1 '' line unpark
 check 1 '' line cases -
 
 # Too long, by far, by one byte, and without end.
@@ -138,6 +171,8 @@ for input in zeros toolong /dev/zero; do
     refused 12 pages 640 800
     refused 12 plain 640 800
     refused 12 trace 640 800
+    refused 12 park 640 800
+    refused 12 park 640 800 -n 0
 done
 input=/dev/zero
 check 1 '' line cases -
@@ -147,6 +182,7 @@ input=longest
 check 0 "$too_long" '' report
 check 0 '' '' pages 4800 6800
 check 0 '' '' plain 4800 6800
+check 0 '?' '' park 4800 6800
 check 0 '?' '' trace 4800 6800
 checks=$((checks + 1))
 [ "$(tail -n 1 out)" = "COUNT${tab}1048576${tab}0" ] || fail "trace of the longest" "last line"
@@ -159,6 +195,7 @@ check 0 '?' '' plain 640 800
 check 0 '?' '' trace 640 800
 check 0 '?' '' trace 8 1
 check 0 '?' '' trace 4800 6800
+check 0 '?' '' park 640 800
 check 1 '' line cases -
 input=reportlongest
 check 0 '?' '' report
@@ -170,7 +207,7 @@ check 0 "$too_long" '' report
 # Measures not allowed, before anything is said of the input: 10 before 12.
 huge=99999999999999999999999999999999999999999999
 for input in one toolong closed; do
-    for word in pages plain trace; do
+    for word in pages plain trace park; do
         for width in 0 7 12 4808 18446744073709551615 18446744073709551624 $huge; do
             refused 10 $word $width 800
         done
@@ -190,7 +227,17 @@ check 1 '' line report 640
 check 1 '' line cases
 check 1 '' line cases cases cases
 check 1 '' line $'\xff\xfe'
-for word in pages plain trace; do
+check 1 '' line unpark 640
+check 1 '' line unpark ''
+for number in '' - +1 -1 1.5 0x4 1x ' 1' '1 ' one $'\xff' $'1\n'; do
+    check 1 '' line park 640 800 -n "$number"
+done
+check 1 '' line park 640 800 -n
+check 1 '' line park 640 800 -n 1 2
+check 1 '' line park 640 800 -m 1
+check 1 '' line park 640 800 n 1
+check 1 '' line park -n 1 640 800
+for word in pages plain trace park; do
     check 1 '' line $word
     check 1 '' line $word 640
     check 1 '' line $word 640 800 1
@@ -208,9 +255,14 @@ if [ -c /dev/full ]; then
     check 1 '' line pages 640 800
     check 1 '' line plain 640 800
     check 1 '' line trace 640 800
+    check 1 '' line park 640 800
+    check 1 '' line unpark
     check 1 '' line cases cases
     # A refusal that cannot be written either; the others use standard error.
     check 1 '' line trace 7 800
+    check 1 '' line park 7 800
+    input=parked
+    check 1 '' line unpark
     input=toolong
     check 1 '' line report
     check 1 '' line trace 640 800

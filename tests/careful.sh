@@ -5,7 +5,8 @@
 set -eu
 cd "$(dirname "$0")/.."
 . tests/checks.sh
-for name in report pages plain; do proved_program "$name"; done
+programs=(pages plain report park unpark)
+for name in "${programs[@]}"; do proved_program "$name"; done
 root=$PWD
 rooms=$(readlink -f "$(mktemp -d)")
 trap 'kill $(jobs -p) 2>/dev/null || :; chmod -R u+rwx "$rooms"; rm -rf "$rooms"' EXIT
@@ -27,7 +28,7 @@ checkout() {
 built() {
   checkout "$1"
   mkdir -p "$1/target/bin" "$1/target/staticlib"
-  cp "$root/target/bin/pages" "$root/target/bin/plain" "$root/target/bin/report" "$1/target/bin"
+  cp "${programs[@]/#/$root/target/bin/}" "$1/target/bin"
   head -c 200000 /dev/zero | tr '\0' L >"$1/target/staticlib/libdoor.a"
 }
 # instead PROGRAM: a shell script in the place of a proved program of the checkout `faked`. Its text is standard input; $PROGRAMS has the proved ones.
@@ -88,7 +89,7 @@ prepare() {
   local name
   mkdir "$room" "$room/programs"
   cd "$room"
-  for name in pages plain report; do
+  for name in "${programs[@]}"; do
     printf '#!/bin/sh\nexec %s "%s" "$@"\n' "${x86_emulator:+"\"$x86_emulator\""}" "$root/target/bin/$name" >programs/$name
     chmod +x programs/$name
   done
@@ -103,6 +104,7 @@ prepare() {
   printf '\33&f1S\33*t300R\33*b2W\377\200\fA' >paper.pcl # two pages and one finding
   printf '\33&f1S\33*t300R\33*b2W\377\200' >short.pcl # one page and one finding
   printf '\33*t300R\33*b2W\377\200' >clean.pcl
+  printf 'JOB\t8\t100\t192\t900\t0\t192\t0\t720\t1200\t0\t75\t0\t0\t0\t0\t1\nPOS\t0\t900\nROW\t00\n' >parked.txt
   printf '\33*t300R\33*b1W\360\f\33*b1W\377\f\33*b1W\1' >three.pcl # three pages
   head -c 1048577 /dev/zero >long.pcl
   head -c 300000 /dev/zero | tr '\0' A >text.pcl # its plain stream is itself, and longer than a pipe
@@ -216,11 +218,17 @@ closed_and_full() {
   streams 0 0 0 0 plain clean.pcl -o goal
   streams 2 2 1 2 pages 640 800 paper.pcl
   streams 2 1 1 2 report paper.pcl
+  streams 2 0 0 2 park paper.pcl
+  streams 2 0 2 2 park
+  streams 0 0 0 0 park 640 800 paper.pcl -n 3 -o goal
+  streams 2 2 2 2 park 641 800 paper.pcl
+  streams 2 0 0 2 unpark parked.txt
+  streams 2 2 2 2 unpark paper.pcl
   streams 2 0 0 2 archive
   streams 2 0 0 2 archive -o goal
   streams 2 2 0 2 archive -o -
   for word in print "draw goal" "draw nowhere -o goal" "draw paper.pcl clean.pcl -o goal" "record paper.pcl -x -o goal" "plain 640 eight paper.pcl" \
-    "report paper.pcl clean.pcl" "archive one two" "bench now"; do
+    "report paper.pcl clean.pcl" "park -n x paper.pcl" "unpark parked.txt parked.txt" "archive one two" "bench now"; do
     rm -rf whole
     : >printed.whole
     for how in ">&-" "2>&-" "2>/dev/full" "all closed"; do streamed 2 "$how" $word; done
@@ -252,13 +260,15 @@ closed_and_full() {
 reader_gone() {
   local words
   for words in "" --version "draw --help" "plain paper.pcl" "plain text.pcl" "report paper.pcl" "pages 640 800 paper.pcl" "archive -o lib.a" "archive -o -" \
-    "record 640 800 clean.pcl -o -" "draw 640 800 paper.pcl -o goal" "record 640 800 paper.pcl -o goal"; do
+    "park paper.pcl" "park 641 800 paper.pcl" "unpark parked.txt" "unpark paper.pcl" "record 640 800 clean.pcl -o -" "draw 640 800 paper.pcl -o goal" \
+    "record 640 800 paper.pcl -o goal"; do
     rm -rf goal
     run "$words, into a pipe that nobody reads" "${careful[@]}" gone 1 "${command[@]}" $words
     must "status $status, not 2" [ "$status" -eq 2 ]
     must "says something" [ "$(grep -cv $'\t' errors)" -eq 0 ] # but for the lines of a program, which have tabs
   done
-  for words in print "pages 640 800 paper.pcl" "plain paper.pcl" "record 640 800 paper.pcl -o -" "draw nowhere -o goal"; do
+  for words in print "pages 640 800 paper.pcl" "plain paper.pcl" "park 641 800 paper.pcl" "unpark paper.pcl" \
+    "record 640 800 paper.pcl -o -" "draw nowhere -o goal"; do
     run "$words, with errors that nobody reads" "${careful[@]}" gone 2 "${command[@]}" $words
     must "status $status, not 2" [ "$status" -eq 2 ]
   done
@@ -295,6 +305,14 @@ into_output() {
   must "status $status, not 1" [ "$status" -eq 1 ]
   must "prints" [ ! -s printed ]
   must "another stream" same stream plain.whole
+  call park paper.pcl
+  cp printed parked.whole
+  for goal in - /dev/stdout printed; do
+    call park paper.pcl -o $goal
+    must "status $status, not 0" [ "$status" -eq 0 ]
+    must "another text" same printed parked.whole
+    must "says something" [ ! -s errors ]
+  done
   for goal in - /dev/stdout; do
     call archive -o $goal
     must "status $status, not 0" [ "$status" -eq 0 ]
@@ -312,7 +330,7 @@ descriptors() {
   cp printed stream.whole
   cp errors words.whole
   for goal in /dev/stderr /dev/fd/2 /proc/self/fd/2; do
-    for word in "plain paper.pcl" "record 640 800 paper.pcl" archive; do
+    for word in "plain paper.pcl" "park paper.pcl" "record 640 800 paper.pcl" archive; do
       said="$word -o $goal 2>&-" status=0
       "${command[@]}" $word -o $goal >printed 2>&- || status=$?
       must "status $status, not 2" [ "$status" -eq 2 ]
@@ -359,7 +377,7 @@ descriptors() {
   must "status $status, not 2" [ "$status" -eq 2 ]
   ln -s round round
   for goal in round "$(head -c 256 /dev/zero | tr '\0' x)"; do
-    for word in "plain paper.pcl" "record 640 800 paper.pcl" archive; do
+    for word in "plain paper.pcl" "park paper.pcl" "record 640 800 paper.pcl" archive; do
       call $word -o "$goal"
       refuses "rovinuset: no file can be written: $goal: "
     done
@@ -420,6 +438,11 @@ unprivileged() {
     must "prints something else" same printed printed.whole
     must "says something else" same errors errors.whole
   done
+  theirs park 8 100 paper.pcl -o parked.txt
+  must "status $status, not 0" [ "$status" -eq 0 ]
+  theirs unpark parked.txt
+  ends 0 $'ROW\tFF'
+  rm own/parked.txt
   theirs archive -o lib.a
   must "status $status, not 0" [ "$status" -eq 0 ]
   must "not the library" same own/lib.a theirs/target/staticlib/libdoor.a
@@ -455,6 +478,10 @@ refused_there() {
   refuses "rovinuset: pages cannot be proved and built: no permission to write in: $1"
   theirs report paper.pcl
   refuses "rovinuset: report cannot be proved and built: no permission to write in: $1"
+  theirs park paper.pcl -o parked.txt
+  refuses "rovinuset: park cannot be proved and built: no permission to write in: $1"
+  theirs unpark paper.pcl
+  refuses "rovinuset: unpark cannot be proved and built: no permission to write in: $1"
   theirs archive -o lib.a
   refuses "cannot be proved and built: no permission to write in: $1"
   unchanged own own.whole
@@ -712,7 +739,7 @@ own_job() {
   call draw 640 800 own-job/page-1.pcl -o own-job
   ends 0 "1 page, 0 findings, 9 dots: own-job"
   must "the job is gone" same clean.pcl own-job/page-1.pcl
-  for words in "plain -o" "record -o"; do
+  for words in "plain -o" "park -o" "record -o"; do
     call ${words% *} own-job/page-1.pcl -o own-job/page-1.pcl
     refuses "would be written over the job: own-job/page-1.pcl"
     must "the job is another" same clean.pcl own-job/page-1.pcl
@@ -841,6 +868,7 @@ stopped() {
   call draw 640 800 three.pcl -o kept
   call record 640 800 three.pcl -o kept/record.html
   call plain three.pcl -o kept/plain.pcl
+  call park three.pcl -o kept/parked.txt
   cp real/target/staticlib/libdoor.a kept/lib.a
   cp -a kept kept.whole
   for folder in kept new/deep; do
@@ -883,6 +911,14 @@ TEXT
   stopping stopped "report runs" report paper.pcl
   unfaked
   stopping "reading -" "the job is read" report
+  waiting park 1
+  stopping stopped "park runs" park paper.pcl -o kept/parked.txt
+  stopping stopped "park runs" park paper.pcl -o new
+  waiting unpark 1
+  stopping stopped "unpark runs" unpark parked.txt
+  unfaked
+  stopping "reading pipe" "the job is read from a FIFO" park pipe -n 2 -o kept/parked.txt
+  stopping "reading -" "the text is read" unpark
   # While programs and the library are proved, which rt does by children of its own.
   local PATH=$room/kit/bin:$PATH
   export RT_DOES=waits
@@ -891,6 +927,8 @@ TEXT
   stopping stopped "pages is proved" draw 640 800 clean.pcl -o new/deep
   stopping stopped "pages is proved" record 640 800 clean.pcl -o kept/record.html
   stopping stopped "report is proved" report clean.pcl
+  signals= stopping stopped "park is proved" park clean.pcl -o kept/parked.txt
+  signals= stopping stopped "unpark is proved" unpark parked.txt
   stopping stopped "the library is proved" archive -o kept/lib.a
   stopping stopped "the library is proved" archive -o new
   {
@@ -917,7 +955,7 @@ stopped_aside() {
   local word
   mkfifo endless
   exec 3<>endless
-  for word in draw record plain; do
+  for word in draw record plain park; do
     cat clean.pcl >&3
     PATH=$room/hook:$PATH STEP="0 ASIDE $room/steps.log" run "$word, SIGTERM right before it waits" timeout 20 "${command[@]}" $word 640 800 -o new <&3
     one_line 2 "rovinuset: $word: not written: stopped"
@@ -1057,7 +1095,7 @@ at_each_step() {
 # Whatever is asked wrongly is answered by one line that says what; help and version are there for each word.
 words() {
   local word more
-  for word in draw record plain pages report; do
+  for word in draw record plain pages report park; do
     case $word in draw | record) more="-o none" ;; *) more="" ;; esac
     call $word clean.pcl three.pcl $more
     refuses "rovinuset: $word takes one job, and here are two: clean.pcl, three.pcl"
@@ -1068,8 +1106,12 @@ words() {
     call $word -640 800 clean.pcl $more
     refuses "not a number of dots: -640"
   done
-  call archive -x
-  refuses "rovinuset: no such option: -x"
+  call unpark clean.pcl three.pcl paper.pcl short.pcl
+  refuses "rovinuset: unpark takes one text, and here are 4: clean.pcl, three.pcl, paper.pcl, short.pcl"
+  for word in unpark archive; do
+    call $word -x
+    refuses "rovinuset: no such option: -x"
+  done
   call print
   refuses "rovinuset: no such word: print"
   must "does not say where help is" grep -q './rovinuset help' errors
@@ -1084,7 +1126,7 @@ words() {
   call help
   must "status $status, not 0" [ "$status" -eq 0 ]
   mv printed all.help
-  for word in draw record plain pages report archive bench; do
+  for word in draw record plain pages report park unpark archive bench; do
     must "the help does not name $word" grep -q "rovinuset $word" all.help
     call $word --help
     must "status $status, not 0" [ "$status" -eq 0 ]
@@ -1095,7 +1137,7 @@ words() {
     call $word -h
     must "another help for -h" same printed "$word.help"
   done
-  must "two words have one help" [ "$(sha256sum ./*.help | sort | uniq -w 64 | wc -l)" -eq 8 ]
+  must "two words have one help" [ "$(sha256sum ./*.help | sort | uniq -w 64 | wc -l)" -eq 10 ]
   # A refusal is told in words by each.
   call report long.pcl
   must "status $status, not 2" [ "$status" -eq 2 ]
@@ -1104,6 +1146,12 @@ words() {
   call pages 641 800 clean.pcl
   must "status $status, not 2" [ "$status" -eq 2 ]
   must "no words" grep -q '^rovinuset: pages: refused, number 10: ' errors
+  call park 641 800 clean.pcl
+  must "other lines: $(cat printed)" [ "$status $(cat printed)" = $'2 REFUSED\t10' ]
+  must "no words" grep -q '^rovinuset: park: refused, number 10: ' errors
+  call unpark clean.pcl
+  must "other lines: $(cat printed)" [ "$status $(cat printed)" = $'2 REFUSED\t17' ]
+  must "no words" grep -q '^rovinuset: unpark: refused, number 17: ' errors
   for word in plain "record -o refused.html" "draw -o none"; do
     call $word 641 800 clean.pcl
     refuses "rovinuset: ${word%% *}: refused, number 10: page measure not allowed"
@@ -1130,6 +1178,14 @@ named() {
   must "status $status, not 0" [ "$status" -eq 0 ]
   call pages "names/$name"
   must "status $status, not 0" [ "$status" -eq 0 ]
+  call park 8 100 "names/$name" -n 0 -o "names/$name.txt"
+  must "status $status, not 0" [ "$status" -eq 0 ]
+  call unpark "names/$name.txt"
+  ends 0 $'ROW\t00'
+  call unpark "names/not $name"
+  refuses "no such file: names/not $spelt"
+  call park -n "$name" clean.pcl
+  refuses "rovinuset: not a number of items: $spelt"
   call draw "names/not $name" -o none
   refuses "no such file: names/not $spelt"
   call report "names/not $name"
@@ -1142,7 +1198,7 @@ named() {
   refuses "rovinuset: draw takes one job, and here are two: clean.pcl, names/$spelt"
   call draw 640 "$name" clean.pcl -o none
   refuses "not a number of dots: $spelt"
-  must "something else was made: $(ls -A names | cat -v | tr '\n' ' ')" [ "$(find names -mindepth 1 -maxdepth 1 -printf x)" = xxxx ]
+  must "something else was made: $(ls -A names | cat -v | tr '\n' ' ')" [ "$(find names -mindepth 1 -maxdepth 1 -printf x)" = xxxxx ]
   absent none
 }
 names() {
@@ -1216,6 +1272,15 @@ kinds() {
   must "status $status, not 0" [ "$status" -eq 0 ]
   wait "$reader" || :
   must "the reader got something else" same got text.pcl
+  cat parked.txt >queue &
+  run "unpark of a FIFO" timeout 10 "${command[@]}" unpark queue
+  ends 0 $'ROW\t00'
+  timeout 10 cat fifo >got &
+  reader=$!
+  run "park into a FIFO" timeout 10 "${command[@]}" park 8 100 text.pcl -n 0 -o fifo
+  must "status $status, not 0" [ "$status" -eq 0 ]
+  wait "$reader" || :
+  must "the reader got something else" [ "$(head -c 12 got)" = $'JOB\t8\t100\t0\t' ]
   timeout 10 cat fifo >got &
   reader=$!
   run "archive into a FIFO" timeout 10 "${command[@]}" archive -o fifo
@@ -1250,7 +1315,12 @@ kinds() {
     refuses "not written: File too large"
     unchanged limit limit.whole
   done
-  for word in "record clean.pcl" "plain clean.pcl" archive; do
+  for word in limit/plain.pcl limit/new; do # a parked text is shorter than that
+    run "park -o $word, files of 1 KiB at most" bash -c 'ulimit -f 1 && exec "$@"' - "${command[@]}" park 4800 6800 clean.pcl -o $word
+    refuses "not written: File too large"
+    unchanged limit limit.whole
+  done
+  for word in "record clean.pcl" "plain clean.pcl" "park clean.pcl" archive; do
     call $word -o /dev/full
     refuses "not written: No space left on device"
     call $word -o limit
@@ -1284,7 +1354,7 @@ read_only() {
   refuses "rovinuset: no permission to write in: shut"
   call draw 640 800 clean.pcl -o shut/new
   refuses "the folder cannot be made: shut/new"
-  for word in "record clean.pcl" "plain clean.pcl" archive; do
+  for word in "record clean.pcl" "plain clean.pcl" "park clean.pcl" archive; do
     call $word -o shut/file
     refuses "no permission to write"
     call $word -o shut/new
@@ -1293,7 +1363,7 @@ read_only() {
     unchanged shut shut.whole
   done
   chmod 700 shut
-  for word in "record clean.pcl" "plain clean.pcl" archive; do # the folder may be written, the file may not
+  for word in "record clean.pcl" "plain clean.pcl" "park clean.pcl" archive; do # the folder may be written, the file may not
     call $word -o shut/file
     refuses "no permission to write: shut/file"
     unchanged shut shut.whole
@@ -1306,7 +1376,7 @@ read_only() {
 without_kit() {
   local word path=$room/few
   checkout bare
-  for word in "draw -o none" "record -o none" plain pages report archive "archive -o none" "draw nowhere -o none" bench; do
+  for word in "draw -o none" "record -o none" plain pages report park unpark archive "archive -o none" "draw nowhere -o none" bench; do
     PATH=$path run "$word, without rt" "${careful[@]}" unread bare/rovinuset $word
     refuses "rovinuset: the Rattle kit (rt) is not here: "
     absent none bare/target

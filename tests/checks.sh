@@ -75,7 +75,7 @@ stub() {
   cp -rp "$project/rovinuset" "$project/tools" "$project/VERSION" "$project/crates.txt" "$1"
   cp -p "$project/tests/need.sh" "$project/tests/x86.sh" "$1/tests"
   local name
-  for name in pages plain report; do fake "$1" "$name" 'exec cat >/dev/null'; done
+  for name in pages plain report park unpark; do fake "$1" "$name" 'exec cat >/dev/null'; done
 }
 # fake FOLDER NAME LINES..: in the stub there, the program NAME is a shell script of these lines.
 fake() {

@@ -1,12 +1,13 @@
 #!/usr/bin/env bash
-# The one command, as a user gives it: reports, pages and plain streams that are right, papers, jobs that cannot be read, help, and words that are wrong.
+# The one command, as a user gives it: reports, pages, plain streams and parked texts that are right, papers, jobs that cannot be read, help, and words that
+# are wrong.
 # A line for each failed check, then the count. Exit status 1 on a failure.
 set -eu
 cd "$(dirname "$0")/.."
 . tests/checks.sh
 need xz xz-utils
 root=$PWD second=$PWD/second/target/release/second corpus=$PWD/tests/vectors/corpus
-for name in report pages plain; do proved_program "$name"; done
+for name in report pages plain park unpark; do proved_program "$name"; done
 (cd second && cargo build --release --offline --quiet)
 room=$(mktemp -d)
 trap 'rm -rf "$room"' EXIT
@@ -21,6 +22,18 @@ gives() {
 quietly() { right "says on standard error: $(cat errors)" [ ! -s errors ]; }
 # refused NUMBER: status 2, nothing on standard output, and one line that says the refusal.
 refused() { refuses "rovinuset: plain: refused, number $1: "; }
+# refused_by WORD NUMBER TEXT: status 2, the line REFUSED and nothing else on standard output, and one line that says the refusal.
+refused_by() {
+  right "status $status, not 2" [ "$status" -eq 2 ]
+  right "prints: $(cat printed)" cmp -s printed <(printf 'REFUSED\t%s\n' "$2")
+  in_words "rovinuset: $1: refused, number $2: $3"
+}
+# parks: status 0, the lines of a parked text, and nothing on standard error.
+parks() {
+  right "status $status, not 0" [ "$status" -eq 0 ]
+  right "no parked text: $(cat printed)" [ "$(cut -f 1 printed | tr '\n' ' ')" = "JOB ROW " ]
+  quietly
+}
 # lines_of W H FILE: the lines of this job by the second program's trace and its marks, to the file `lines`.
 lines_of() {
   "$second" marks "$1" "$2" <"$3" >marks
@@ -324,12 +337,239 @@ gives 0 combined.txt
 said="plain nowhere 2>/dev/full" status=0
 "${command[@]}" plain nowhere 2>/dev/full || status=$?
 right "status $status, not 2" [ "$status" -eq 2 ]
+# ---- park and unpark
+# By hand, on a page of 192 by 2,400 units, where text begins at 0, 900: &a2C goes to the right edge, &f0S pushes that place, *t300R is the resolution, and
+# the row of one byte begins at the left and is 24 units high.
+printf '\33&a2C\33&f0S\33*t300R\33*b1W\252' >state.pcl
+printf 'JOB\t8\t100\t0\t924\t0\t192\t0\t720\t1200\t0\t300\t0\t1\t0\t1\t1\nPOS\t192\t900\nROW\tAA\n' >state.txt
+for words in "8 100 state.pcl" "8 100" "8 100 -" "-n 4 8 100 state.pcl" "8 -n 5 100 state.pcl" "8 100 state.pcl -n 00000000000000000000000004" \
+  "8 100 -n 9999999 state.pcl" "8 100 -n 10000000 state.pcl" "8 100 state.pcl -n 18446744073709551616" "008 100 -n 99999999999999999999999999 -- state.pcl"; do
+  call park $words <state.pcl
+  gives 0 state.txt
+  quietly
+done
+while read -r items text; do
+  printf '%b' "$text" >wanted
+  call park 8 100 state.pcl -n "$items"
+  gives 0 wanted
+  quietly
+done <<'TEXT'
+0 JOB\t8\t100\t0\t900\t0\t192\t0\t720\t1200\t0\t75\t0\t0\t0\t0\t0\nROW\t00\n
+1 JOB\t8\t100\t192\t900\t0\t192\t0\t720\t1200\t0\t75\t0\t0\t0\t0\t0\nROW\t00\n
+2 JOB\t8\t100\t192\t900\t0\t192\t0\t720\t1200\t0\t75\t0\t0\t0\t0\t1\nPOS\t192\t900\nROW\t00\n
+3 JOB\t8\t100\t192\t900\t0\t192\t0\t720\t1200\t0\t300\t0\t0\t0\t0\t1\nPOS\t192\t900\nROW\t00\n
+TEXT
+call park 8 100 state.pcl -n 0
+mv printed afresh.txt
+call park 8 100 empty
+gives 0 afresh.txt
+emptily
+call park 8 100 combined.pcl -n 1 # &a10c leaves its sequence open
+refused_by park 16 "sequence open"
+call park 8 100 combined.pcl -n 2
+parks
+call park 8 100 -n 1 paper.pcl # a finding: it is an item like others, and is not told
+gives 0 afresh.txt
+quietly
+# On the page that is not said, and on papers: that is in the text.
+call park combined.pcl
+parks
+right "another page" [ "$(cut -f 2,3 printed | head -n 1)" = $'2552\t3304' ]
+right "another text than by the program alone" cmp -s printed <(x86_run "$root/target/bin/park" <combined.pcl)
+while read -r paper wide high; do
+  call park $paper combined.pcl
+  parks
+  right "another page" [ "$(cut -f 2,3 printed | head -n 1)" = "$wide"$'\t'"$high" ]
+  right "a row of $(tail -n 1 printed | wc -c) bytes" [ "$(tail -n 1 printed | wc -c)" -eq $((5 + wide / 4)) ]
+done < <(papers)
+# Refused in this order: 10, 12, 16.
+for words in "7 100 state.pcl" "8 6801 state.pcl" "0 0 state.pcl" "641 800 longer" "7 100 -n 1 combined.pcl" "99999999999999999999999999 800 state.pcl"; do
+  call park $words
+  refused_by park 10 "page measure not allowed"
+done
+cat combined.pcl longer >opened.pcl
+for words in longer "opened.pcl -n 1" "8 100 longer -n 0"; do
+  call park $words
+  refused_by park 12 "job longer than 1,048,576 bytes"
+done
+call park longest
+parks
+# Into a file: the same bytes, and what was there stays where it is refused.
+for job in state.pcl "$corpus/gm-curve-150.pcl" empty; do
+  call park a4 "$job"
+  cp printed wanted
+  cp errors words
+  call park -o parked.txt a4 "$job"
+  gives 0 empty
+  right "other words: $(cat errors)" cmp -s words errors
+  right "another text" cmp -s wanted parked.txt
+  for words in - /dev/stdout; do
+    call park a4 "$job" -o $words
+    gives 0 wanted
+    right "other words: $(cat errors)" cmp -s words errors
+  done
+done
+echo mine >parked.txt
+for words in "10 641 800 state.pcl" "12 longer" "16 -n 1 combined.pcl"; do
+  call park ${words#* } -o parked.txt
+  refused_by park "${words%% *}" ""
+  right "what was there is another" [ "$(cat parked.txt)" = mine ]
+  call park ${words#* } -o none.txt
+  refused_by park "${words%% *}" ""
+  right "a file is left of it" [ ! -e none.txt ]
+done
+cp state.pcl job.pcl
+call park 8 100 job.pcl -o ./job.pcl
+refuses "the parked text would be written over the job: ./job.pcl"
+right "the job is another" cmp -s state.pcl job.pcl
+call park state.pcl -o nowhere/parked.txt
+refuses "no such folder: nowhere"
+call park state.pcl -o /
+refuses "a folder, not a file: /"
+call park state.pcl -o /dev/full
+refuses "rovinuset: park: not written: No space left on device"
+call park state.pcl -o a -o b
+refuses "park takes -o once, and the file to write behind it"
+for words in x -1 +1 1.5 1e3 0x1 $'\xd9\xa1' "1 " -o; do
+  call park 8 100 state.pcl -n "$words"
+  refuses "rovinuset: not a number of items: $words"
+done
+for words in "-n" "-n 1 -n 1"; do
+  call park 8 100 state.pcl $words
+  refuses "rovinuset: park takes -n once, and a number of items behind it"
+done
+call park 8 100 state.pcl -n ""
+refuses "rovinuset: park takes -n once, and a number of items behind it"
+
+# What a text holds, by hand.
+printf '%b\t%s\n' W 8 H 100 x 0 y 924 L 0 R 192 T 0 HMI 720 VMI 1200 termination 0 resolution 300 method 0 started 1 margin 0 used 1 depth 1 >held.txt
+printf 'POS\t192\t900\nROW\tAA\n' >>held.txt
+for words in state.txt "" - /dev/stdin "-- state.txt"; do
+  call unpark $words <state.txt
+  gives 0 held.txt
+  quietly
+done
+"${command[@]}" park 8 100 state.pcl | "${command[@]}" unpark >printed
+said="park | unpark" && right "another text" cmp -s held.txt printed
+sed 's/$/\r/' state.txt >crlf.txt
+sed 's/\t100\t/\t6801\t/' state.txt >high.txt
+head -c 1048576 /dev/zero >zeros.txt
+head -c 2000000 /dev/zero | tr '\0' J >two.txt
+{ cat state.txt && head -c 1048577 /dev/zero; } >followed.txt
+while read -r words number text; do
+  call unpark $words
+  refused_by unpark $number "$text"
+  call unpark <$words
+  refused_by unpark $number "$text"
+done <<'TEXT'
+crlf.txt 17 text not of the form of a parked text
+empty 17 text not of the form of a parked text
+zeros.txt 17 text not of the form of a parked text
+state.pcl 17 text not of the form of a parked text
+high.txt 18 form right, but page measure not allowed or state not sound
+two.txt 12 text longer than 1,048,576 bytes
+longer 12 text longer than 1,048,576 bytes
+followed.txt 12 text longer than 1,048,576 bytes
+TEXT
+
+# The same as by the second program: on real streams and damaged ones, with the items ending anywhere, and then on their texts.
+# as_second WORDS..: what it prints is the file `wanted`; it is refused if that says so.
+as_second() {
+  local ended=0
+  ! grep -q '^REFUSED' wanted || ended=2
+  call "$@"
+  gives "$ended" wanted
+  right "not as many lines of words: $(cat errors)" [ "$(wc -l <errors)" -eq $((ended / 2)) ]
+}
+parked=0
+for job in "$corpus"/{gm-curve-150,hp2xx-75,groff-lj4-letter,barcode-table,gnuplot-pcl5}.pcl "$corpus"/../damaged/{damaged,flat}-curve.pcl; do
+  for words in "640 800 1" "2480 3508 7" "8 1 40" "1000 151 333" "4800 6800 100000000"; do
+    read -r wide high items <<<"$words"
+    "$second" park $wide $high -n $items <"$job" >wanted || :
+    as_second park $wide $high "$job" -n $items
+    grep -q '^REFUSED' printed || { parked=$((parked + 1)) && mv printed parked-$parked.txt; }
+  done
+done
+said="park" && right "$parked texts of 35: too few" [ "$parked" -ge 20 ]
+for ((one = 1; one <= parked; one += 3)); do
+  "$second" unpark <parked-$one.txt >wanted || :
+  as_second unpark parked-$one.txt
+  right "not the members of the text" cmp -s <(head -n 1 parked-$one.txt) <(head -n 16 printed | cut -f 2 | paste -s | sed 's/^/JOB\t/')
+done
+# And on texts cut and damaged.
+damaged=0
+while IFS= read -r words; do
+  damaged=$((damaged + 1))
+  sed "$words" state.txt >damaged.txt
+  right "$words changes nothing" [ "$(cmp -s state.txt damaged.txt; echo $?)" -eq 1 ]
+  "$second" unpark <damaged.txt >wanted || :
+  as_second unpark damaged.txt
+done <<'TEXT'
+1s/JOB/JOB2/
+1s/JOB/job/
+1s/JOB\t/JOB /
+1s/^/ /
+1s/\t8\t/\t9\t/
+1s/\t8\t/\t16\t/
+1s/\t8\t/\t08\t/
+1s/\t8\t/\t7\t/
+1s/\t8\t/\t9999999999\t/
+1s/\t8\t/\t99999999999\t/
+1s/\t8\t/\t-8\t/
+1s/\t100\t/\t0\t/
+1s/\t100\t/\t4294967396\t/
+1s/\t924\t/\t2400\t/
+1s/\t924\t/\t2401\t/
+1s/\t924\t/\t925\t/
+1s/\t192\t/\t193\t/
+1s/\t192\t/\t0\t/
+1s/\t300\t/\t76\t/
+1s/\t300\t0\t/\t300\t3\t/
+1s/\t300\t0\t/\t300\t4\t/
+1s/\t300\t0\t1\t/\t300\t0\t2\t/
+1s/\t300\t0\t1\t/\t300\t0\t0\t/
+1s/\t1200\t0\t/\t1200\t3\t/
+1s/\t1200\t0\t/\t1200\t4\t/
+1s/\t1\t1$/\t0\t1/
+1s/\t1\t1$/\t2\t1/
+1s/\t1$/\t0/
+1s/\t1$/\t2/
+1s/\t1$/\t4294967297/
+1s/$/\t0/
+1s/$/\t/
+1s/\t1$//
+2d
+2p
+2s/192/193/
+2s/192/0192/
+2s/900/4294968196/
+2s/900$/900\t0/
+2s/POS/pos/
+3d
+3p
+3s/AA/aa/
+3s/AA/A/
+3s/AA/AAAA/
+3s/AA/FF/
+3s/\tAA//
+3s/\t/ /
+3s/$/\n/
+1s/^/\n/
+TEXT
+for length in 1 3 5 40 $(($(wc -c <state.txt) - 4)) $(($(wc -c <state.txt) - 1)); do
+  damaged=$((damaged + 1))
+  head -c $length state.txt >damaged.txt
+  "$second" unpark <damaged.txt >wanted || :
+  as_second unpark damaged.txt
+done
+said="unpark" && right "$damaged damaged texts" [ "$damaged" -ge 50 ]
+
 # A program that fails is not a job with findings, and one whose output is of no form is not passed on.
 stub checkout
 echo mine >kept.pcl
-for word in plain "plain -o kept.pcl" "report 640 800" report "pages 640 800"; do
+for word in plain "plain -o kept.pcl" "report 640 800" report "pages 640 800" park "park -o kept.pcl" unpark; do
   for lines in 'exit 1' 'cat >/dev/null; kill -SEGV $$' 'printf "SIZE\t640\t800\n"; printf "SIZE\t640\t800\n" >&2' 'echo UNWRITTEN >&2'; do
-    for name in pages plain report; do fake checkout $name "$lines"; done
+    for name in pages plain report park unpark; do fake checkout $name "$lines"; done
     said="$word, over programs that do: $lines" status=0
     checkout/rovinuset $word <paper.pcl >printed 2>errors || status=$?
     right "status $status, not 2" [ "$status" -eq 2 ]
@@ -344,6 +584,25 @@ fake checkout plain 'cat >/dev/null; printf "cut"; exit 1'
 said="plain, over a program that breaks off" status=0
 checkout/rovinuset plain <paper.pcl >printed 2>errors || status=$?
 refuses "rovinuset: plain: not written: the program broke off"
+# A parked text that is not whole, a number that is none of a parked text's, and one whose program failed behind it.
+"$second" park 8 100 -n 4 <state.pcl >cut
+for lines in 'printf "JOB\t8"' "head -n 1 cut" "head -n 2 cut" "head -c -1 cut" "sed s/AA/aa/ cut" "cat cut; echo" "cat cut; exit 1" \
+  "cat cut; echo UNWRITTEN >&2" 'printf "REFUSED\t17\n"' 'printf "REFUSED\t15\n"' 'printf "REFUSED\t10"' :; do
+  fake checkout park 'cat >/dev/null' "$lines"
+  for word in park "park -o kept.pcl"; do
+    said="$word, over a program that does: $lines" status=0
+    checkout/rovinuset $word <state.pcl >printed 2>errors || status=$?
+    refuses "rovinuset: park: not written: the program broke off"
+    right "writes" [ "$(cat kept.pcl)" = mine ]
+  done
+done
+"$second" unpark <cut >held
+for lines in "head -n 15 held" "head -c -1 held" "sed 1d held" "sed s/depth/deep/ held" "cat held; exit 1" "cat cut" 'printf "REFUSED\t16\n"' :; do
+  fake checkout unpark 'cat >/dev/null' "$lines"
+  said="unpark, over a program that does: $lines" status=0
+  checkout/rovinuset unpark <cut >printed 2>errors || status=$?
+  refuses "rovinuset: unpark: not written: the program broke off"
+done
 
 # A job that cannot be read: the programs say UNREAD and nothing else, the command ends with 2 and one line.
 unread() {
@@ -353,7 +612,7 @@ unread() {
 memory=/proc/self/mem # its first byte cannot be read: EIO; as long as the process that opened it goes on
 exec {opened}<"$memory"
 breaks="python3 $root/tests/breaks.py"
-for name in report pages plain; do
+for name in report pages plain park unpark; do
   program=("$root/target/bin/$name")
   [ -z "${x86_emulator-}" ] || program=("$x86_emulator" "${program[@]}")
   said="target/bin/$name </"
@@ -371,24 +630,26 @@ for name in report pages plain; do
     unread
   done
 done
-for word in report plain pages "report a5"; do
+for word in report plain pages "report a5" park unpark; do
+  case $word in unpark) what=text ;; *) what=job ;; esac
   call $word "$memory"
-  refuses "the job could not be read"
+  refuses "the $what could not be read"
   call $word <"$memory"
-  refuses "the job could not be read"
+  refuses "the $what could not be read"
   call $word <&-
-  refuses "the job could not be read: standard input is closed"
+  refuses "the $what could not be read: standard input is closed"
   call $word /dev/stdin <&- # by its name it is no empty job either
   refuses "rovinuset: "
   for kind in socket network busy; do
     said="$word, $kind" status=0
     $breaks $kind "${command[@]}" $word >printed 2>errors || status=$?
-    refuses "the job could not be read"
+    refuses "the $what could not be read"
   done
   said="$word, terminal" status=0
   $breaks terminal "${command[@]}" $word >printed 2>errors || status=$?
-  sed -i '/reading the job from the terminal/d' errors
-  refuses "the job could not be read"
+  right "does not say that it waits: $(cat errors)" grep -q "reading the $what from the terminal" errors
+  sed -i "/reading the $what from the terminal/d" errors
+  refuses "the $what could not be read"
 done
 # A pipe whose writer is killed ends as any other does, for the system as for us: the bytes that came are the job.
 printf '\33&a10C\33&a5' >cut.pcl
@@ -400,6 +661,12 @@ for word in report plain pages "report 640 800"; do
   gives 1 wanted
   right "says: $(cat errors)" cmp -s words errors
 done
+"$second" park 8 100 <cut.pcl >wanted
+call park 8 100 < <(cat cut.pcl; kill -KILL "$BASHPID")
+gives 0 wanted
+quietly
+call unpark < <(head -c 20 wanted; kill -KILL "$BASHPID")
+refused_by unpark 17 "text not of the form of a parked text"
 
 mkdir folder
 call plain nowhere
@@ -436,6 +703,28 @@ call pages folder
 refuses "a directory, not a job: folder"
 call pages <folder
 refuses "a directory, not a job: standard input"
+call park nowhere
+refuses "no such file: nowhere"
+call park 8 100 folder -n 1
+refuses "a directory, not a job: folder"
+call park <folder
+refuses "a directory, not a job: standard input"
+call park paper.pcl combined.pcl
+refuses "rovinuset: park takes one job, and here are two: paper.pcl, combined.pcl"
+call park 640 combined.pcl
+refuses "not a number of dots: combined.pcl"
+call park 640 800 combined.pcl combined.pcl
+refuses "park takes the page's measure, or nothing, and one job"
+call unpark nowhere
+refuses "no such file: nowhere"
+call unpark folder
+refuses "a directory, not a text: folder"
+call unpark <folder
+refuses "a directory, not a text: standard input"
+call unpark state.txt state.txt
+refuses "rovinuset: unpark takes one text, and here are two: state.txt, state.txt"
+call unpark 8 100 state.txt # its page is in it
+refuses "rovinuset: unpark takes one text, and here are 3: 8, 100, state.txt"
 
 # A dash: '-' is standard input, -- ends the options, and what begins with a dash is no file unless it is said.
 cp combined.pcl ./-x
@@ -443,12 +732,16 @@ for words in "-x" "-x combined.pcl" "640 800 -x" "combined.pcl -x"; do
   call plain $words
   refuses "rovinuset: no such option: -x (a file of that name is ./-x)"
 done
-for word in report pages; do
+for word in report pages unpark; do
   call $word -o none paper.pcl
   refuses "rovinuset: no such option: -o (a file of that name is ./-o)"
 done
 call plain --pages 3 combined.pcl
 refuses "rovinuset: no such option: --pages (a file of that name is ./--pages)"
+for word in plain report unpark; do
+  call $word -n 3 combined.pcl
+  refuses "rovinuset: no such option: -n (a file of that name is ./-n)"
+done
 for words in "./-x" "-- -x" "640 800 -- -x" "-- 640 800 -x" "-- combined.pcl" "combined.pcl --" "-o - -- -x"; do
   call plain $words
   gives 0 combined.txt
@@ -468,7 +761,7 @@ for word in --help -h help "help help" "help --help" "help -h"; do
   gives 0 usage
   quietly
 done
-for word in draw record plain pages report archive bench; do
+for word in draw record plain pages report park unpark archive bench; do
   said="the help" && right "$word is not in it" grep -q "^  \./rovinuset $word " usage
   call $word --help
   ends 0 "$(tail -n 1 printed)"
@@ -482,6 +775,7 @@ for word in draw record plain pages report archive bench; do
   call $word nowhere --help # whatever else is given
   gives 0 its_usage
 done
+said="the examples of the help" && right "$(cat printed)" python3 "$root/tests/documented.py" "$root"/tools/help/{park,unpark}.txt >printed
 call --version
 printf 'Rovinuset %s\n' "$(cat "$root/VERSION")" >wanted
 gives 0 wanted
@@ -494,12 +788,14 @@ done
 call print
 refuses "rovinuset: no such word: print"
 
-for word in report "report 640 800" plain; do
+for word in report "report 640 800" plain park "park 641 800" "park -n 1" unpark; do # park and unpark: the line of a refusal, too
   unwritten $word combined.pcl
   refuses "rovinuset: ${word%% *}: not written: No space left on device"
   closed $word combined.pcl
   refuses "rovinuset: ${word%% *}: not written: No space left on device"
 done
+unwritten unpark state.txt
+refuses "rovinuset: unpark: not written: No space left on device"
 unwritten plain paper.pcl
 refuses "rovinuset: plain: not written: No space left on device"
 # What it could not write is not said to be there: the page's line and the end are not told.
@@ -522,6 +818,10 @@ refuses "no permission to read: shut"
 call plain shut
 refuses "no permission to read: shut"
 call pages shut
+refuses "no permission to read: shut"
+call park shut
+refuses "no permission to read: shut"
+call unpark shut
 refuses "no permission to read: shut"
 
 counted command

@@ -1,4 +1,5 @@
-# What door.sh, steps.sh and translations.sh share: cases through a driver in C and through the second program. To be sourced at the project's root.
+# What door.sh, steps.sh, translations.sh and parkings.sh share: cases through a driver in C and through the second program. resumed.sh takes the driver
+# alone. To be sourced at the project's root.
 export LC_ALL=C
 . tests/need.sh
 . tests/x86.sh
@@ -15,7 +16,7 @@ begin() {
   cases=0
   (cd second && cargo build --release --offline --quiet)
   if [ "$side" = plain ]; then
-    x86_cc -O2 -Wall -Wextra -DPLAIN "tests/$2.c" bench/reader.c bench/plain.c -o "$room/driver"
+    x86_cc -O2 -Wall -Wextra -DPLAIN "tests/$2.c" bench/reader.c bench/plain.c bench/park.c -o "$room/driver"
   else
     archive "$3"
     x86_cc -O2 -Wall -Wextra "tests/$2.c" "target/staticlib/lib$3.a" -o "$room/driver"

@@ -20,9 +20,9 @@ stored=tests/vectors/example corpus=tests/vectors/corpus second=second/target/re
 # ---- C
 strict="-O2 -Wall -Wextra -Werror -pedantic"
 plain=() # options that give the plain reader's functions the door's names
-for name in afresh sound dots run translate; do plain+=("-Dplain_$name=rov_$name"); done
+for name in afresh sound dots run translate park unpark; do plain+=("-Dplain_$name=rov_$name"); done
 if [ "${1:-}" = plain ]; then
-  in_c() { x86_cc $strict "${plain[@]}" "examples/$1.c" bench/reader.c bench/plain.c -o "$room/$1"; }
+  in_c() { x86_cc $strict "${plain[@]}" "examples/$1.c" bench/reader.c bench/plain.c bench/park.c -o "$room/$1"; }
 else
   ./rovinuset archive -o "$room/librovinuset.a" >/dev/null
   in_c() { x86_cc $strict "examples/$1.c" "$room/librovinuset.a" -o "$room/$1"; }
@@ -41,9 +41,9 @@ if [ "${1:-}" != plain ] && [ -d "$(rustc --print sysroot)/lib/rustlib/$x86/lib"
   fi
 else
   target=() over="plain C"
-  for file in reader plain; do gcc $strict "${plain[@]}" -c "bench/$file.c" -o "$room/$file.o"; done
+  for file in reader plain park; do gcc $strict "${plain[@]}" -c "bench/$file.c" -o "$room/$file.o"; done
   rm -f "$room/librovinuset.a"
-  ar rcs "$room/librovinuset.a" "$room/reader.o" "$room/plain.o"
+  ar rcs "$room/librovinuset.a" "$room/reader.o" "$room/plain.o" "$room/park.o"
 fi
 in_rust() { (cd examples/rust && ROVINUSET_LIB=$room cargo "$1" --release --offline --quiet "${target[@]}" "${@:2}"); }
 

@@ -474,7 +474,7 @@ def wrong_lists():
 
 
 def wrong_edits():
-    """Edits whose old text is no longer in the file that they change: rt sees it too, but behind all proofs."""
+    """Edits whose old text does not stand once in the file that they change: rt sees it too, but behind all proofs."""
     for path in found("crates/*/must-fail/*.edit") + found("tests/edits/beside/*/*.edit"):
         crate = path.split(os.sep)[-3 if "must-fail" in path else -2]
         lines = [line.partition(": ") for line in text(path).split("\n")]
@@ -483,8 +483,8 @@ def wrong_edits():
                 changed = text("crates", crate, old)
             elif key == "old":
                 looked["replaced"] += 1
-                if old not in changed:
-                    yield "%s: what it replaces is not there: %s" % (path, old)
+                if changed.count(old) != 1:
+                    yield "%s: what it replaces stands there %d times: %s" % (path, changed.count(old), old)
 
 
 def main():

@@ -1,10 +1,11 @@
 #!/usr/bin/env python3
-"""runcases.py R|S|T COUNT SEED: cases of runs, of steps or of translations, one to a line.
+"""runcases.py R|S|T|K|U COUNT SEED: cases of runs, of steps, of translations, of states to be parked or of parked texts, one to a line.
 runcases.py vectors: a translation of each real stream and each of the manuals' and the paper's examples.
 
 The form of the lines is in second/README.md, mode `cases`. The streams are made
 by a grammar of PCL and out of pieces of the real streams in tests/vectors; pages,
-buffers, states, places, allowances, page numbers and rooms are random and at the edges. One
+buffers, states, places, allowances, page numbers and rooms are random and at the edges. Parked
+texts are in parkcases.py. One
 letter and SEED give the same lines every time; a smaller COUNT gives the first of
 them.
 """
@@ -14,6 +15,7 @@ import os
 import sys
 
 import leafcases
+import parkcases
 
 LONGEST = 1048576  # the longest stream
 HUGE = 2**64 - 1  # the greatest number a line may hold
@@ -612,20 +614,24 @@ def lines(words):
     """None if the words are wrong."""
     if words == ["vectors"]:
         return vectors()
-    if len(words) != 3 or words[0] not in ("R", "S", "T") or not (words[1].isascii() and words[1].isdigit()):
+    if len(words) != 3 or words[0] not in ("R", "S", "T", "K", "U") or not (words[1].isascii() and words[1].isdigit()):
         return None
     kind, count, seed = words
     cases = Runs(kind, seed)
     if kind == "T":
         return (cases.case_t(number) for number in range(int(count)))
-    case = cases.case_r if kind == "R" else cases.case_s
+    if kind in ("K", "U"):
+        parking = parkcases.Parking(cases)
+        case = parking.case_k if kind == "K" else parking.case_u
+    else:
+        case = cases.case_r if kind == "R" else cases.case_s
     return (case() for _ in range(int(count)))
 
 
 def main(words):
     cases = lines(words)
     if cases is None:
-        print("usage: runcases.py R|S|T COUNT SEED, or runcases.py vectors", file=sys.stderr)
+        print("usage: runcases.py R|S|T|K|U COUNT SEED, or runcases.py vectors", file=sys.stderr)
         return 1
     for line in cases:
         sys.stdout.write(line + "\n")

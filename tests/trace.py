@@ -8,7 +8,7 @@ Definition  entries parted by `;`: `File: name, name`, or words. File is a file 
             are the declared types of crates/rules. A name must be declared in just that file.
 Function    entries parted by `,`: `crate::name`, a function of crates/crate/src, or one of FUNCTION_WORDS.
 Test        entries parted by `;`: `kind: name, name`, or one of TEST_WORDS. The kinds and what a name is:
-              example   a number of the table in crates/examples      theorem   a statement of crates/theorems
+              example   a number of the table in crates/examples      theorem   one of a crate's specs/Statements.antt
               edit      CRATE/NAME of crates/CRATE/must-fail          rule      NAME of tests/edits
               vector    a stream of a folder of tests/vectors         second    FILE::NAME, a test of second/tests
               compared  a file that ./test runs                       run       the same
@@ -96,7 +96,8 @@ def without_contract():
 def tests():
     """For each kind of test, whether there is one of a name."""
     table, whole = text("crates/examples/specs/Table.antt"), text("test").split()
-    statements = re.findall(r"^(?:pub record|abbrev pub) (\w+)", text("crates/theorems/specs/Statements.antt"), re.M)
+    laws = "".join(text(path) for path in sorted(glob.glob("crates/*/specs/Statements.antt", root_dir=ROOT)))
+    statements = re.findall(r"^(?:pub record|abbrev pub) (\w+)", laws, re.M)
 
     def second(name):
         file, _, test = name.partition("::")

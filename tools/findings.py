@@ -38,6 +38,17 @@ REFUSALS = {
     14: "start place after the end of the job",
     15: "translation longer than the room given, or than 1,048,576 bytes",
 }
+# Of a job that is run afresh and parked, and of a parked text that is read: those that can come.
+PARKING = {
+    10: REFUSALS[10],
+    12: REFUSALS[12],
+    16: "sequence open: the last of these items leaves it so (some items more, or fewer, close it)",
+}
+UNPARKING = {
+    12: "text longer than 1,048,576 bytes",
+    17: "text not of the form of a parked text",
+    18: "form right, but page measure not allowed or state not sound",
+}
 DAMAGED_ROW = 7
 
 

@@ -25,11 +25,11 @@ class Broken(Exception):
 
 
 class Unread(Exception):
-    """The job could not be read to its end."""
+    """The job, or the text, could not be read to its end."""
 
 
-def read_job(number):
-    """A job to its end; of a longer one than allowed a byte more than allowed, so that the program refuses it. Read by the system's own call:
+def read_job(number, what):
+    """A job to its end, or a text; of a longer one than allowed a byte more than allowed, so that the program refuses it. Read by the system's own call:
     Python's streams take a read that would block for the end."""
     parts, left = [], LONGEST + 1
     try:
@@ -37,7 +37,7 @@ def read_job(number):
             parts.append(part)
             left -= len(part)
     except OSError as error:
-        raise Unread(files.reason(error)) from error
+        raise Unread(f"the {what} could not be read: {files.reason(error)}") from error
     return b"".join(parts)
 
 

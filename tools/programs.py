@@ -137,6 +137,14 @@ def fed(command, job, **streams):
         thread.join()
 
 
+def answer(command, job):
+    """What a program prints of a job, all of it; what it says on standard error, a line at most; and its exit status."""
+    with fed(command, job, stdout=subprocess.PIPE, stderr=subprocess.PIPE) as process:
+        text = process.stdout.read()
+        strange = process.stderr.read().decode("ascii", "replace").strip()
+    return text, strange, process.returncode
+
+
 def feed(pipe, job):
     try:
         pipe.write(job)

@@ -1,7 +1,5 @@
 """The lines of a job: by the paper's report program, or, where a page is given, by the program `pages`, whose pages go nowhere."""
 
-import subprocess
-
 import ending
 import findings
 import pages
@@ -14,9 +12,7 @@ PAPER_LIMIT = "job longer than 65,536 bytes, which is the report's limit where n
 
 def report(call, command):
     """The paper's report, as its program writes it."""
-    with programs.fed(command, call.job, stdout=subprocess.PIPE, stderr=subprocess.PIPE) as process:
-        text = process.stdout.read()
-        strange = process.stderr.read().decode("ascii", "replace").strip()  # a line at most
+    text, strange, _ = programs.answer(command, call.job)
     lines = findings.Lines(marked=False)
     for line in text.decode("ascii", "replace").splitlines():
         lines.take(line)

@@ -8,6 +8,7 @@ import ending
 import files
 import goal
 import pages
+import park
 import pbm
 import plain
 import programs
@@ -17,9 +18,9 @@ import stopping
 import words
 
 
-def on_job(word, given, takes, needed):
-    """A call on a job. What is missing is said first, then what is wrong with the job's file; what is not built is built when the rest is right."""
-    call = words.Call(word, given, takes)
+def on_job(word, given, takes, needed, kind=words.Call):
+    """A call on a job, or a text. What is missing is said first, then what is wrong with its file; what is not built is built when the rest is right."""
+    call = kind(word, given, takes)
     made = [programs.program(name) for name in needed(call)]
     programs.can_be_had(made)
     call.open()
@@ -67,6 +68,18 @@ def reporting(given):
     return report.report_on(call, on_page(call, made)) if call.measured else report.report(call, *ready(call, made))
 
 
+def parking(given):
+    call, made = on_job("park", given, park.TAKES, lambda _: ("park",))
+    park.items(call)
+    to = goal.Goal(call.goal or "-", "parked text", call)
+    return park.park(call, *ready(call, made), to)
+
+
+def unparking(given):
+    call, made = on_job("unpark", given, park.TEXT_TAKES, lambda _: ("unpark",), words.Text)
+    return park.unpark(call, *ready(call, made))
+
+
 def bench(given):
     """The tables of docs/SPEED.md, as Markdown."""
     if given:
@@ -89,6 +102,8 @@ COMMANDS = {
     "plain": passing_on,
     "pages": pages_out,
     "report": reporting,
+    "park": parking,
+    "unpark": unparking,
     "archive": archive.archive,
     "bench": bench,
 }
@@ -105,7 +120,7 @@ def why(word, error):
     if isinstance(error, ending.Wrong):
         return str(error)
     if isinstance(error, pages.Unread):
-        return f"{word}: the job could not be read: {error}"
+        return f"{word}: {error}"
     if isinstance(error, OSError):
         return f"{word}: not written: {files.reason(error)}"
     if isinstance(error, pages.Broken):

@@ -13,10 +13,15 @@ def refused(word, number, refusals=findings.REFUSALS):
     return ending.WRONG
 
 
-def ended(call, lines):
-    """The exit status of a job that was not refused, where there is no summary that says whether it is empty."""
+def of_empty(call):
+    """Says that the job is empty, if it is, where there is no summary that does."""
     if not call.job:
         ending.notice(EMPTY)
+
+
+def ended(call, lines):
+    """The exit status of a job that was not refused."""
+    of_empty(call)
     return lines.status()
 
 

@@ -1,4 +1,4 @@
-"""The words of a call: options, the page's measure, the job."""
+"""The words of a call: options, the page's measure, the job or the text."""
 
 import fcntl
 import os
@@ -45,12 +45,20 @@ def no_option(one):
     return f"no such option: {files.printed(one)} (a file of that name is ./{files.printed(one)})"
 
 
-def dots(text):
-    """A number of dots. To the programs all from a million on are as one."""
+def number(text, of, most):
+    """A number of dots, or of items. To the programs all from `most` on, which is a power of ten, are as one."""
     if not NUMBER.fullmatch(text):
-        raise ending.Wrong(f"not a number of dots: {files.printed(text)}")
+        raise ending.Wrong(f"not a number of {of}: {files.printed(text)}")
     digits = text.lstrip("0")
-    return int(digits or "0") if len(digits) <= 6 else MILLION
+    return int(digits or "0") if len(digits) < len(str(most)) else most
+
+
+def dots(text):
+    return number(text, "dots", MILLION)
+
+
+def too_many(word, what, names):
+    return ending.Wrong(f"{word} takes one {what}, and here are {'two' if len(names) == 2 else len(names)}: {listed(names)}")
 
 
 def measure(word, others):
@@ -61,35 +69,26 @@ def measure(word, others):
         return (None, None, None), others
     jobs = len(others) == 2 or os.path.exists(others[0])
     if jobs and not any(map(NUMBER.fullmatch, others[:2])):
-        raise ending.Wrong(f"{word} takes one job, and here are {'two' if len(others) == 2 else len(others)}: {listed(others)}")
+        raise too_many(word, "job", others)
     return (dots(others[0]), dots(others[1]), ""), others[2:]
 
 
-class Call:
-    """A command on a job: its options, its page, its job, which is opened here and read by `read`."""
+class Source:
+    """What a command reads, from a file or from standard input: a job, or what else is said. It is opened by `open`; `read` puts its bytes into `job`."""
 
-    def __init__(self, word, words, takes):
-        self.options, others = split(word, words, takes)
-        self.goal = self.options.get("-o")
-        if self.goal is None and takes.get("-o") == "where to write":
-            raise ending.Wrong(f"{word} needs -o and where to write")
-        (self.width, self.height, self.paper), left = measure(word, others)
-        if len(left) > 1:
-            raise ending.Wrong(f"{word} takes the page's measure, or nothing, and one job")
-        self.path = left[0] if left and left[0] not in STANDARD_INPUT else None
+    def __init__(self, what, names):
+        self.what = what
+        self.path = names[0] if names and names[0] not in STANDARD_INPUT else None
         self.name = "standard input" if self.path is None else os.path.basename(self.path)
-        self.measured = self.width is not None
-        if not self.measured:
-            self.width, self.height = DEFAULT
         self.number = self.job = None
 
     def open(self):
-        self.number = standard_input() if self.path is None else opened(self.path)
+        self.number = standard_input(self.what) if self.path is None else opened(self.path, self.what)
         if stat.S_ISDIR(os.fstat(self.number).st_mode):
-            raise ending.Wrong(f"a directory, not a job: {self.said()}")
+            raise ending.Wrong(f"a directory, not a {self.what}: {self.said()}")
 
     def read(self):
-        self.job = pages.read_job(self.number)
+        self.job = pages.read_job(self.number, self.what)
 
     def said(self):
         return "standard input" if self.path is None else files.printed(self.path)
@@ -101,12 +100,39 @@ class Call:
         except FileNotFoundError:
             return False
 
+
+class Text(Source):
+    """A command on a text, which has its page's measure in it."""
+
+    def __init__(self, word, words, takes):
+        self.options, others = split(word, words, takes)
+        if len(others) > 1:
+            raise too_many(word, "text", others)
+        super().__init__("text", others)
+
+
+class Call(Source):
+    """A command on a job: its options, its page, its job."""
+
+    def __init__(self, word, words, takes):
+        self.options, others = split(word, words, takes)
+        self.goal = self.options.get("-o")
+        if self.goal is None and takes.get("-o") == "where to write":
+            raise ending.Wrong(f"{word} needs -o and where to write")
+        (self.width, self.height, self.paper), left = measure(word, others)
+        if len(left) > 1:
+            raise ending.Wrong(f"{word} takes the page's measure, or nothing, and one job")
+        super().__init__("job", left)
+        self.measured = self.width is not None
+        if not self.measured:
+            self.width, self.height = DEFAULT
+
     def page(self):
         """What is said of the page's measure, behind its dots."""
         return ", the default" if not self.measured else f", {self.paper}" if self.paper else ""
 
 
-def opened(path):
+def opened(path, what):
     try:
         return os.open(path, os.O_RDONLY | os.O_CLOEXEC)
     except (FileNotFoundError, NotADirectoryError):
@@ -114,15 +140,15 @@ def opened(path):
     except PermissionError:
         raise ending.Wrong(f"no permission to read: {files.printed(path)}") from None
     except OSError as error:
-        raise ending.Wrong(f"the job could not be read: {files.reason(error)}") from None
+        raise ending.Wrong(f"the {what} could not be read: {files.reason(error)}") from None
 
 
-def standard_input():
+def standard_input(what):
     """A closed one, or a folder, is open for writing alone (./rovinuset): nothing else may take its place."""
     if os.environ.get("ROVINUSET_INPUT") == "folder":
-        raise ending.Wrong("a directory, not a job: standard input")
+        raise ending.Wrong(f"a directory, not a {what}: standard input")
     if fcntl.fcntl(0, fcntl.F_GETFL) & os.O_ACCMODE == os.O_WRONLY:
-        raise ending.Wrong("the job could not be read: standard input is closed")
+        raise ending.Wrong(f"the {what} could not be read: standard input is closed")
     if os.isatty(0):
-        ending.notice("reading the job from the terminal, up to Ctrl-D")
+        ending.notice(f"reading the {what} from the terminal, up to Ctrl-D")
     return 0

@@ -1,8 +1,9 @@
-//! Case files: runs, steps and translations on anything a caller might hand in,
-//! one to a line, each answered by one line.
+//! Case files: runs, steps, translations and parked texts on anything a caller
+//! might hand in, one to a line, each answered by one line.
 
 use crate::dots::{count_dots, Sheet};
 use crate::measure::{Measure, LONGEST_STREAM, STACK_ROOM, WIDEST_ROW};
+use crate::park::{park, unpark, write_pairs, Parked};
 use crate::plain::translate;
 use crate::reader::OpenSequence;
 use crate::run::run;
@@ -92,6 +93,13 @@ pub fn answer_case(line: &str) -> Option<String> {
             let stream = parse_stream(stream)?;
             Some(answer_translation(width, height, &mut room, &stream))
         }
+        ["K", width, height, room, fill, state] => {
+            let (width, height) = (decimal(width)?, decimal(height)?);
+            let mut room = filled(room, fill)?;
+            let state = parse_state(state, width, height)?;
+            Some(answer_parking(width, height, &state, &mut room))
+        }
+        ["U", text] => Some(answer_text(parse_text(text)?)),
         _ => None,
     }
 }
@@ -208,6 +216,29 @@ fn answer_translation(width: u64, height: u64, room: &mut [u8], stream: &[u8]) -
     }
 }
 
+fn answer_parking(width: u64, height: u64, state: &State, room: &mut [u8]) -> String {
+    match park(width, height, state, room) {
+        Err(refusal) => {
+            let code = refusal.number();
+            format!("refused {code} 0 {:016x}", fnv1a(room))
+        }
+        Ok(length) => {
+            let text = write_pairs(room.get(..length).unwrap_or(&[]));
+            format!("parked {length} {:016x} {text}", fnv1a(room))
+        }
+    }
+}
+
+fn answer_text(text: Vec<u8>) -> String {
+    match unpark(text) {
+        Err(refusal) => format!("refused {}", refusal.number()),
+        Ok(Parked { measure, state }) => {
+            let (width, height) = (measure.width(), measure.height());
+            format!("read {width} {height} {}", write_state(&state))
+        }
+    }
+}
+
 /// 64-bit FNV-1a.
 pub fn fnv1a(bytes: &[u8]) -> u64 {
     bytes.iter().fold(0xcbf2_9ce4_8422_2325, |hash, byte| {
@@ -304,23 +335,33 @@ fn count_of(text: &str) -> Option<u64> {
 
 /// `-`, hexadecimal pairs, or `xN:HEX`.
 fn parse_stream(text: &str) -> Option<Vec<u8>> {
-    if text == "-" {
-        return Some(Vec::new());
+    match text.strip_prefix('x') {
+        None => hexadecimal_or_none(text),
+        // Too long is too long, by one byte or by far: no call looks into such
+        // a stream, so its bytes need not be there.
+        Some(repeated) => parse_repeated(repeated, |length| {
+            Some(length.min(LONGEST_STREAM as u64 + 1))
+        }),
     }
-    let repeated = match text.strip_prefix('x') {
-        Some(found) => found,
-        None => {
-            return hexadecimal(text);
+}
+
+/// The same for a parked text, which has no longest length: every byte of it is
+/// there, so those of `xN:HEX` are fewer than a lent buffer may have.
+fn parse_text(text: &str) -> Option<Vec<u8>> {
+    match text.strip_prefix('x') {
+        None => hexadecimal_or_none(text),
+        Some(repeated) => {
+            parse_repeated(repeated, |length| Some(length).filter(|n| *n < BUFFER_END))
         }
-    };
-    let (length, bytes) = repeated.split_once(':')?;
-    let length = decimal(length)?;
+    }
+}
+
+/// `N:HEX`, for which `made` says how many bytes are made, or None.
+fn parse_repeated(text: &str, made: impl Fn(u64) -> Option<u64>) -> Option<Vec<u8>> {
+    let (length, bytes) = text.split_once(':')?;
+    let length = usize::try_from(made(decimal(length)?)?).ok()?;
     let bytes = hexadecimal(bytes)?;
-    // Too long is too long, by one byte or by far: no call looks into such a
-    // stream, so its bytes need not be there.
-    let enough = length.min(LONGEST_STREAM as u64 + 1);
-    let enough = usize::try_from(enough).ok()?;
-    Some(bytes.iter().copied().cycle().take(enough).collect())
+    Some(bytes.iter().copied().cycle().take(length).collect())
 }
 
 /// `-`, the state afresh, or all its members.
@@ -446,16 +487,8 @@ fn write_stack(stack: &[Position]) -> String {
 /// Capital hexadecimal pairs up to the last byte that is not zero, `-` if there
 /// is none.
 pub fn write_bytes(bytes: &[u8]) -> String {
-    const DIGITS: &[u8; 16] = b"0123456789ABCDEF";
-    let length = kept(bytes);
-    if length == 0 {
-        return "-".to_string();
+    match bytes.get(..kept(bytes)) {
+        None | Some([]) => "-".to_string(),
+        Some(written) => write_pairs(written),
     }
-    let mut text = String::with_capacity(2 * length);
-    for byte in bytes.iter().take(length) {
-        for half in [byte >> 4, byte & 15] {
-            text.push(char::from(DIGITS[usize::from(half)]));
-        }
-    }
-    text
 }

@@ -12,6 +12,7 @@ pub mod dots;
 pub mod leaves;
 pub mod measure;
 pub mod number;
+pub mod park;
 pub mod plain;
 pub mod reader;
 pub mod report;

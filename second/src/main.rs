@@ -5,9 +5,11 @@
 use second::cases::{run_cases, CasesStopped};
 use second::leaves::run_leaves;
 use second::measure::{Measure, LONGEST_STREAM};
+use second::park::{listing, unpark};
 use second::plain::translate;
 use second::report::{
-    write_marks, write_pages, write_report, write_trace, Stopped, LONGEST_REPORT_INPUT,
+    write_marks, write_pages, write_parked, write_report, write_trace, Stopped,
+    LONGEST_REPORT_INPUT,
 };
 use second::run::Refusal;
 use std::ffi::OsString;
@@ -15,8 +17,13 @@ use std::fs::File;
 use std::io::{self, BufRead, BufReader, BufWriter, Read, Write};
 use std::process::ExitCode;
 
-const USAGE: &str =
-    "usage: report | pages W H | plain W H | trace W H | marks W H | cases FILE | leaves FILE";
+const USAGE: &str = "usage: report | pages W H | plain W H | trace W H | marks W H | \
+    park W H [-n ITEMS] | unpark | cases FILE | leaves FILE";
+
+/// The first words there are.
+const WORDS: [&str; 9] = [
+    "report", "pages", "plain", "trace", "marks", "park", "unpark", "cases", "leaves",
+];
 
 /// Everything that does not end with exit status 0.
 enum Failure {
@@ -80,25 +87,38 @@ fn command(words: &[OsString]) -> Result<(), Failure> {
         (Some("marks"), [width, height]) => marks(measure(width, height)?),
         (Some("cases"), [file]) => answer_file(file, run_cases),
         (Some("leaves"), [file]) => answer_file(file, run_leaves),
-        (Some("report" | "pages" | "plain" | "trace" | "marks" | "cases" | "leaves"), _) => Err(
-            Failure::Fault(format!("too few or too many words; {USAGE}")),
-        ),
-        _ => Err(Failure::Fault(format!("a word is wrong; {USAGE}"))),
+        (Some("park"), [width, height]) => park(measure(width, height)?, u64::MAX),
+        (Some("park"), [width, height, option, items]) if option == "-n" => {
+            // What no type holds is more than the items of any stream.
+            let measure = measure(width, height)?;
+            park(measure, number_word(items, "ITEMS")?)
+        }
+        (Some("park"), [_, _, _, _]) => Err(a_word_is_wrong()),
+        (Some("unpark"), []) => unpark_input(),
+        (Some(word), _) if WORDS.contains(&word) => Err(Failure::Fault(format!(
+            "too few or too many words; {USAGE}"
+        ))),
+        _ => Err(a_word_is_wrong()),
     }
+}
+
+fn a_word_is_wrong() -> Failure {
+    Failure::Fault(format!("a word is wrong; {USAGE}"))
 }
 
 /// A measure that is not allowed is None, and refused later; what is no
 /// decimal number at all is a fault.
 fn measure(width: &OsString, height: &OsString) -> Result<Option<Measure>, Failure> {
-    let width = dots_word(width, "W")?;
-    let height = dots_word(height, "H")?;
+    // Too large for the type is no allowed measure either.
+    let width = number_word(width, "W")?;
+    let height = number_word(height, "H")?;
     Ok(Measure::allowed(width, height))
 }
 
-fn dots_word(word: &OsString, name: &str) -> Result<u64, Failure> {
+/// A decimal number; one too large for the type is the greatest of it.
+fn number_word(word: &OsString, name: &str) -> Result<u64, Failure> {
     match word.to_str() {
         Some(text) if !text.is_empty() && text.bytes().all(|byte| byte.is_ascii_digit()) => {
-            // Too large for the type is no allowed measure either.
             Ok(text.parse().unwrap_or(u64::MAX))
         }
         _ => Err(Failure::Fault(format!("{name} is not a decimal number"))),
@@ -113,12 +133,16 @@ fn read_input(limit: usize) -> Result<Vec<u8>, Failure> {
         .lock()
         .take(limit as u64 + 1)
         .read_to_end(&mut bytes)
-        .map_err(|error| Failure::Fault(format!("cannot read standard input: {error}")))?;
+        .map_err(cannot_read_input)?;
     Ok(bytes)
 }
 
-/// The stream of `pages`, `plain`, `trace` and `marks`. A measure not allowed is
-/// refused before anything is read: 10 before 12.
+fn cannot_read_input(error: io::Error) -> Failure {
+    Failure::Fault(format!("cannot read standard input: {error}"))
+}
+
+/// The stream of `pages`, `plain`, `trace`, `marks` and `park`. A measure not
+/// allowed is refused before anything is read: 10 before 12.
 fn read_stream(measure: Option<Measure>, goes_to: RefusalGoesTo) -> Result<Vec<u8>, Failure> {
     if measure.is_none() {
         return Err(Failure::Refused(Refusal::MeasureNotAllowed, goes_to));
@@ -161,13 +185,19 @@ fn marks(measure: Option<Measure>) -> Result<(), Failure> {
     answer_stream(measure, RefusalGoesTo::StandardOutput, write_marks)
 }
 
-/// Reads a stream on a page of its own and writes what is asked of it.
-type WriteStream = fn(Option<Measure>, &[u8], &mut dyn Write) -> Result<(), Stopped>;
+fn park(measure: Option<Measure>, items: u64) -> Result<(), Failure> {
+    let goes_to = RefusalGoesTo::StandardOutput;
+    answer_stream(measure, goes_to, |measure, stream, out| {
+        write_parked(measure, items, stream, out)
+    })
+}
 
+/// Reads a stream on a page of its own and writes, by `write_stream`, what is
+/// asked of it.
 fn answer_stream(
     measure: Option<Measure>,
     goes_to: RefusalGoesTo,
-    write_stream: WriteStream,
+    write_stream: impl Fn(Option<Measure>, &[u8], &mut dyn Write) -> Result<(), Stopped>,
 ) -> Result<(), Failure> {
     let stream = read_stream(measure, goes_to)?;
     let mut out = output();
@@ -186,6 +216,45 @@ fn plain(measure: Option<Measure>) -> Result<(), Failure> {
         .map_err(|refusal| Failure::Refused(refusal, goes_to))?;
     let mut out = output();
     out.write_all(room.get(..length).unwrap_or(&room))
+        .and_then(|()| out.flush())
+        .map_err(cannot_write)
+}
+
+/// The bytes of an input one after the other. They end at an error too, which
+/// is kept.
+struct InputBytes<R: Read> {
+    bytes: io::Bytes<R>,
+    error: Option<io::Error>,
+}
+
+impl<R: Read> Iterator for InputBytes<R> {
+    type Item = u8;
+
+    fn next(&mut self) -> Option<u8> {
+        match self.bytes.next()? {
+            Ok(byte) => Some(byte),
+            Err(error) => {
+                self.error = Some(error);
+                None
+            }
+        }
+    }
+}
+
+/// The text may be of any length, so it is not kept but read byte by byte.
+fn unpark_input() -> Result<(), Failure> {
+    let mut text = InputBytes {
+        bytes: io::stdin().lock().bytes(),
+        error: None,
+    };
+    let result = unpark(&mut text);
+    if let Some(error) = text.error {
+        return Err(cannot_read_input(error));
+    }
+    let parked =
+        result.map_err(|refusal| Failure::Refused(refusal, RefusalGoesTo::StandardOutput))?;
+    let mut out = output();
+    out.write_all(listing(&parked).as_bytes())
         .and_then(|()| out.flush())
         .map_err(cannot_write)
 }

@@ -1,7 +1,9 @@
-//! The report program, and the three writers like it: pages, trace and marks.
+//! The report program, and the four writers like it: pages, trace, marks and
+//! the parked text of a job half read.
 
 use crate::dots::Sheet;
 use crate::measure::Measure;
+use crate::park::parked_text;
 use crate::run::{has_item, run, Found, Ran, Refusal};
 use crate::state::{Position, State};
 use std::io::{self, Write};
@@ -224,6 +226,27 @@ pub fn write_marks(
             writeln!(out, "{}", mark_fields(&found))?;
         }
     }
+    Ok(())
+}
+
+/// The parked text after this many items, or after all if there are fewer. A run
+/// stops behind findings and page ends; the job goes on all the same.
+pub fn write_parked(
+    measure: Option<Measure>,
+    items: u64,
+    stream: &[u8],
+    out: &mut dyn Write,
+) -> Result<(), Stopped> {
+    let measure = admit(measure, stream)?;
+    let mut page = page_buffer(&measure);
+    let mut reading = Reading::start(measure, stream, &mut page);
+    let mut left = items;
+    while left > 0 && reading.has_item() {
+        left = left.saturating_sub(reading.run(left)?.done);
+    }
+    let (width, height) = (u64::from(measure.width()), u64::from(measure.height()));
+    let text = parked_text(width, height, &reading.state)?;
+    out.write_all(text.as_bytes())?;
     Ok(())
 }
 

@@ -6,7 +6,7 @@ use crate::measure::{Measure, LONGEST_STREAM};
 use crate::reader::{read_item, Item};
 use crate::state::{Position, State};
 
-/// The paper's "calls refused as a whole", 10 to 15.
+/// The paper's "calls refused as a whole", 10 to 15, and those of parked texts.
 #[derive(Clone, Copy, PartialEq, Eq, Debug)]
 pub enum Refusal {
     MeasureNotAllowed,
@@ -15,10 +15,16 @@ pub enum Refusal {
     StateNotSound,
     PlaceAfterEnd,
     TranslationTooLong,
+    /// A parked text longer than its room: the same number as a translation.
+    TextTooLong,
+    SequenceOpen,
+    TextNotOfTheForm,
+    /// Of the form, but the measure is not allowed or the state not sound.
+    TextNotSound,
 }
 
 impl Refusal {
-    /// The number in the paper's table.
+    /// The number in the paper's table, or in the request that added it.
     pub fn number(self) -> u8 {
         match self {
             Refusal::MeasureNotAllowed => 10,
@@ -26,7 +32,10 @@ impl Refusal {
             Refusal::StreamTooLong => 12,
             Refusal::StateNotSound => 13,
             Refusal::PlaceAfterEnd => 14,
-            Refusal::TranslationTooLong => 15,
+            Refusal::TranslationTooLong | Refusal::TextTooLong => 15,
+            Refusal::SequenceOpen => 16,
+            Refusal::TextNotOfTheForm => 17,
+            Refusal::TextNotSound => 18,
         }
     }
 }

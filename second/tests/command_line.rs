@@ -1,30 +1,7 @@
 //! The program as it is called: output to the byte, and exit status.
 
-use std::io::Write;
-use std::process::{Command, Stdio};
-
-/// Exit status, standard output, standard error.
-fn call(words: &[&str], input: &[u8]) -> (i32, Vec<u8>, String) {
-    let mut child = Command::new(env!("CARGO_BIN_EXE_second"))
-        .args(words)
-        .stdin(Stdio::piped())
-        .stdout(Stdio::piped())
-        .stderr(Stdio::piped())
-        .spawn()
-        .expect("the program starts");
-    let mut stdin = child.stdin.take().expect("its standard input");
-    // The program may stop reading a long input before its end.
-    let _ = stdin.write_all(input);
-    drop(stdin);
-    let done = child.wait_with_output().expect("the program ends");
-    let error = String::from_utf8(done.stderr).expect("text");
-    (done.status.code().unwrap_or(-1), done.stdout, error)
-}
-
-fn call_for_text(words: &[&str], input: &[u8]) -> (i32, String, String) {
-    let (status, out, error) = call(words, input);
-    (status, String::from_utf8(out).expect("text"), error)
-}
+mod common;
+use common::{call, call_for_text};
 
 #[test]
 fn the_report_example_to_the_byte() {

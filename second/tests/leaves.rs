@@ -1,5 +1,7 @@
 //! Cases for the parts alone: the form of lines and answers, exact.
 
+mod common;
+use common::Random;
 use second::cases::{fnv1a, CasesStopped};
 use second::leaves::{answer_leaf, run_leaves};
 
@@ -714,26 +716,5 @@ fn junk_is_answered_or_not_of_the_form() {
     for _ in 0..2_000 {
         let file: Vec<u8> = (0..random.below(60)).map(|_| random.byte()).collect();
         let _ = run_leaves(&mut &file[..], &mut Vec::new());
-    }
-}
-
-/// Numbers that are the same every time.
-struct Random(u64);
-
-impl Random {
-    fn next(&mut self) -> u64 {
-        self.0 = self
-            .0
-            .wrapping_mul(6_364_136_223_846_793_005)
-            .wrapping_add(1_442_695_040_888_963_407);
-        self.0 >> 33
-    }
-
-    fn below(&mut self, end: usize) -> usize {
-        self.next() as usize % end
-    }
-
-    fn byte(&mut self) -> u8 {
-        self.next() as u8
     }
 }

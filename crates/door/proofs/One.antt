@@ -1,6 +1,6 @@
 -- One outcome for one input, of each call of the library. Assumes nothing.
 use mathlib.Core.Path.{sym, _∙_}
-use Rattle.door.specs.Answers.{OneAfresh, OneAnswer, OneTold}
+use Rattle.door.specs.Answers.{OneAfresh, OneAnswer, OneTold, OneToldParked, OneToldUnparked}
 
 pub one-afresh : OneAfresh
 one-afresh W H before r r′ after after′ p q = (p .number ∙ sym (q .number), p .bytes ∙ sym (q .bytes))
@@ -19,3 +19,9 @@ one-answer W H page stream state allowance place n n₁ page′ page₁ state′
 
 pub one-told : OneTold
 one-told W H stream room n n₁ room′ room₁ long long₁ p q = (p .number ∙ sym (q .number), p .room-is ∙ sym (q .room-is), p .length-is ∙ sym (q .length-is))
+
+pub one-told-parked : OneToldParked
+one-told-parked W H state room n n₁ room′ room₁ long long₁ p q = (p .number ∙ sym (q .number), p .room-is ∙ sym (q .room-is), p .length-is ∙ sym (q .length-is))
+
+pub one-told-unparked : OneToldUnparked
+one-told-unparked text W H state n n₁ W′ W₁ H′ H₁ state′ state₁ p q = (p .number ∙ sym (q .number), p .wide-is ∙ sym (q .wide-is), p .high-is ∙ sym (q .high-is), p .state-is ∙ sym (q .state-is))

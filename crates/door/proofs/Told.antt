@@ -23,10 +23,15 @@ use Rattle.rules.specs.Sound.{sound}
 use Rattle.rules.specs.States.{afresh}
 use Rattle.rules.specs.Run.{answer}
 use Rattle.rules.specs.declared.Translated.{Translated}
+use Rattle.rules.specs.declared.Parking.{Parking}
+use Rattle.rules.specs.declared.Unparked.{Unparked}
+use Rattle.rules.specs.declared.Verdict.{Verdict}
+use Rattle.rules.specs.Park.{park, unpark}
+use Rattle.park_write.specs.Parks.{Parks}
 use Rattle.theorems.specs.Statements.{RunPromise, TranslatePromise}
 use Rattle.theorems.specs.Facts.{Fits}
 use Rattle.state_load.specs.Kept.{stateTakes, stateAt, stateBytes}
-use Rattle.door.specs.Answers.{MadeAfresh, keptAfter, Answered, ToldPlain}
+use Rattle.door.specs.Answers.{MadeAfresh, keptAfter, Answered, ToldPlain, ToldParked, givenVerdict, ToldUnparked}
 
 module _ (W H : ℕ) (x : Bool) (a : x ≡ allowed W H) where
   -- 10
@@ -103,3 +108,47 @@ told-plain W H stream room r after n h e = record {
   length-is = ap (λ (x : Translated). x .length) (h .given);
   demand = h .demand;
 }
+
+-- a state is told as it was parked
+pub told-parked : (W H : ℕ) (state room : List ℕ) (t : State) (r : Parking) (after : List ℕ) (n : ℕ) → t ≡ stateAt state → Parks W H t room r after → n ≡ verdictNumber (r .verdict)
+    → ToldParked W H state room n after (r .length)
+told-parked W H state room t r after n s h e =
+    let g : r ≡ park W H (stateAt state) room .parking = rw s at (h .given) in
+    record {
+      number = e ∙ ap (λ (x : Parking). verdictNumber (x .verdict)) g;
+      room-is = rw s at (h .lent);
+      length-is = ap (λ (x : Parking). x .length) g;
+    }
+
+-- no room for a state
+pub given-short : (v : Verdict) (n : ℕ) → v ≡ Carried → n < stateTakes → Refused UnsoundState ≡ givenVerdict v n
+given-short v n e h = rw (e, lt-ltb n stateTakes h)
+
+pub given-long : (v : Verdict) (n : ℕ) → v ≡ Carried → stateTakes ≤ n → Carried ≡ givenVerdict v n
+given-long v n e h = rw (e, le-ltb n stateTakes h)
+
+-- a text that is refused stays so
+pub given-refused : (v : Verdict) (n : ℕ) (why : Refusal) → v ≡ Refused why → Refused why ≡ givenVerdict v n
+given-refused v n why e = rw e
+
+module _ (text : List ℕ) (W H : ℕ) (state : List ℕ) (u : Unparked) (g : u ≡ unpark text) (v : Verdict) (e : v ≡ givenVerdict (u .verdict) (length state)) where
+  by : v ≡ givenVerdict (unpark text .verdict) (length state)
+  by = e ∙ ap (λ (x : Unparked). givenVerdict (x .verdict) (length state)) g
+
+  -- what it holds is written
+  pub told-unparked : (after : List ℕ) → v ≡ Carried → after ≡ sets state 0 (stateBytes (u .state)) → ToldUnparked text W H state 0 (u .wide) (u .high) after
+  told-unparked after c h = record {
+    number = rw (← by, c);
+    wide-is = rw (← by, c) (ap (λ (x : Unparked). x .wide) g);
+    high-is = rw (← by, c) (ap (λ (x : Unparked). x .high) g);
+    state-is = rw (← by, c) (h ∙ ap (λ (x : Unparked). sets state 0 (stateBytes (x .state))) g);
+  }
+
+  -- nothing is
+  pub told-no-text : (why : Refusal) (n : ℕ) → v ≡ Refused why → n ≡ refusalNumber why → ToldUnparked text W H state n W H state
+  told-no-text why n c h = record {
+    number = rw (← by, c) h;
+    wide-is = rw (← by, c);
+    high-is = rw (← by, c);
+    state-is = rw (← by, c);
+  }

@@ -9,11 +9,14 @@ use lib.Seq.{sets}
 use Rattle.common.specs.Choice.{flagged}
 use Rattle.rules.specs.declared.Refusal.the-variants.{PageMeasure, UnsoundState}
 use Rattle.rules.specs.declared.Ran.{Ran}
+use Rattle.rules.specs.declared.Verdict.{Verdict}
+use Rattle.rules.specs.declared.Verdict.the-variants.{Carried, Refused}
 use Rattle.rules.specs.Measure.{allowed, measureOf}
 use Rattle.rules.specs.Findings.{findingNumber, refusalNumber, verdictNumber}
 use Rattle.rules.specs.States.{afresh}
 use Rattle.rules.specs.Run.{answer}
 use Rattle.rules.specs.Plain.{translate}
+use Rattle.rules.specs.Park.{park, unpark}
 use Rattle.theorems.specs.Statements.{Demand3}
 use Rattle.state_load.specs.Kept.{stateTakes, stateAt, stateBytes, bytesBehind}
 
@@ -53,6 +56,29 @@ pub record ToldPlain (W H : ℕ) (stream room : List ℕ) (n : ℕ) (room′ : L
   pub length-is : long ≡ translate W H stream room .given .length
   pub demand : allowed W H ≡ true → Demand3 (measureOf W H) stream
 
+-- a state parked: the rules' own, of the state that the bytes are read as
+pub record ToldParked (W H : ℕ) (state room : List ℕ) (n : ℕ) (room′ : List ℕ) (long : ℕ) : Type 0 where
+  pub number : n ≡ verdictNumber (park W H (stateAt state) room .parking .verdict)
+  pub room-is : room′ ≡ park W H (stateAt state) room .room
+  pub length-is : long ≡ park W H (stateAt state) room .parking .length
+
+-- whether what a text holds is given, with so many bytes for a state: 17 and 18 first, then 13 where they are too few
+abbrev pub givenVerdict : Verdict → ℕ → Verdict
+givenVerdict Carried n = cond (ltb n stateTakes) (Refused UnsoundState) Carried
+givenVerdict (Refused why) n = Refused why
+
+-- a number that a refusal leaves as it was
+abbrev pub unlessRefused : Verdict → ℕ → ℕ → ℕ
+unlessRefused Carried n was = n
+unlessRefused (Refused why) n was = was
+
+-- a text read: width, height and the state's bytes; a refusal writes none of them
+pub record ToldUnparked (text : List ℕ) (W H : ℕ) (state : List ℕ) (n W′ H′ : ℕ) (state′ : List ℕ) : Type 0 where
+  pub number : n ≡ verdictNumber (givenVerdict (unpark text .verdict) (length state))
+  pub wide-is : W′ ≡ unlessRefused (givenVerdict (unpark text .verdict) (length state)) (unpark text .wide) W
+  pub high-is : H′ ≡ unlessRefused (givenVerdict (unpark text .verdict) (length state)) (unpark text .high) H
+  pub state-is : state′ ≡ bytesBehind (givenVerdict (unpark text .verdict) (length state)) (unpark text .state) state
+
 -- One outcome: two that a promise allows for one input are equal, each number and each byte that was lent. `rov_sound` and `rov_dots` promise by an
 -- equation, whose other side is the one outcome.
 abbrev pub OneAfresh : Type 0
@@ -68,3 +94,11 @@ OneAnswer = (W H : ℕ) (page stream state : List ℕ) (allowance place n n₁ :
 abbrev pub OneTold : Type 0
 OneTold = (W H : ℕ) (stream room : List ℕ) (n n₁ : ℕ) (room′ room₁ : List ℕ) (long long₁ : ℕ) → ToldPlain W H stream room n room′ long → ToldPlain W H stream room n₁ room₁ long₁
     → (n ≡ n₁) × (room′ ≡ room₁) × (long ≡ long₁)
+
+abbrev pub OneToldParked : Type 0
+OneToldParked = (W H : ℕ) (state room : List ℕ) (n n₁ : ℕ) (room′ room₁ : List ℕ) (long long₁ : ℕ) → ToldParked W H state room n room′ long → ToldParked W H state room n₁ room₁ long₁
+    → (n ≡ n₁) × (room′ ≡ room₁) × (long ≡ long₁)
+
+abbrev pub OneToldUnparked : Type 0
+OneToldUnparked = (text : List ℕ) (W H : ℕ) (state : List ℕ) (n n₁ W′ W₁ H′ H₁ : ℕ) (state′ state₁ : List ℕ) → ToldUnparked text W H state n W′ H′ state′ → ToldUnparked text W H state n₁ W₁ H₁ state₁
+    → (n ≡ n₁) × (W′ ≡ W₁) × (H′ ≡ H₁) × (state′ ≡ state₁)

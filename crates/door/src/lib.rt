@@ -9,7 +9,7 @@ ghost use Rattle.common.specs.Bits.{onesAll};
 ghost use Rattle.rules.specs.Measure.{allowed, measureOf, pageBytes};
 ghost use Rattle.rules.specs.Sound.{sound};
 ghost use Rattle.state_load.specs.Kept.{stateAt};
-ghost use Rattle.door.specs.Answers.{MadeAfresh, keptAfter, Answered, ToldPlain};
+ghost use Rattle.door.specs.Answers.{MadeAfresh, keptAfter, Answered, ToldPlain, ToldParked, givenVerdict, ToldUnparked};
 use common::flag;
 use number_finding::finding_number;
 use number_finding::refusal_number;
@@ -131,4 +131,57 @@ pub extern "C" fn rov_translate(
     *length = r.length;
     let verdict = r.verdict;
     verdict_number(verdict)
+}
+
+// The text of a state on a page of w by h dots, written to the front of the room.
+#[no_mangle]
+pub extern "C" fn rov_park(
+    w: usize,
+    h: usize,
+    state: &[u8],
+    room: &mut [u8],
+    length: &mut usize,
+) -> u32
+    ensures { λ n. ⌜ ToldParked w h (now (state .entry)) (now (room .entry)) n (now (room .exit)) (now (length .exit)) ⌝ }
+{
+    let t = read_state(state);
+    let parked = park_write::park(w, h, t, room);
+    *length = parked.length;
+    let verdict = parked.verdict;
+    verdict_number(verdict)
+}
+
+// Whether what a text holds is given, with so many bytes for a state. What is wrong with the text is told first.
+fn given_verdict(v: Verdict, n: usize) -> Verdict
+    ensures { λ r. ⌜ r ≡ givenVerdict v n ⌝ }
+{
+    match v {
+        Verdict::Carried => {
+            if n < STATE_BYTES {
+                return Verdict::Refused(Refusal::UnsoundState);
+            }
+            Verdict::Carried
+        }
+        Verdict::Refused(why) => Verdict::Refused(why),
+    }
+}
+
+// The page measure and the state that a parked text holds. Refused, nothing is written.
+#[no_mangle]
+pub extern "C" fn rov_unpark(text: &[u8], w: &mut usize, h: &mut usize, state: &mut [u8]) -> u32
+    ensures { λ n. ⌜ ToldUnparked (now (text .entry)) (now (w .entry)) (now (h .entry)) (now (state .entry)) n (now (w .exit)) (now (h .exit)) (now (state .exit)) ⌝ }
+{
+    let u = unpark_read::unpark(text);
+    let verdict = u.verdict;
+    let outcome = given_verdict(verdict, state.len());
+    match outcome {
+        Verdict::Carried => {
+            *w = u.wide;
+            *h = u.high;
+            let t = u.state;
+            write_state(t, state);
+            0
+        }
+        Verdict::Refused(why) => refusal_number(why),
+    }
 }

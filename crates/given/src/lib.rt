@@ -4,7 +4,7 @@ use libc::STDIN_FILENO;
 ghost use mathlib.Core.Path.{_≡_};
 ghost use Prim.Native.Nat.{_≤_};
 ghost use lib.ListN.{length};
-ghost use Rattle.given.specs.Words.{Spelt};
+ghost use Rattle.given.specs.Words.{Spelt, SpeltItems};
 ghost use Rattle.given.specs.Reads.{readSaid, Came, Within, noJob};
 use rules::LONGEST_STREAM;
 
@@ -14,6 +14,13 @@ pub enum Given {
     Unread,
 }
 
+// A word of the command line, if there is such a word: the first bytes of their place.
+struct Word {
+    there: bool,
+    length: usize,
+    bytes: [u8; 20],
+}
+
 // What one read says: how many bytes came, that the job is over, or that it failed.
 enum Said {
     Bytes(usize),
@@ -21,16 +28,50 @@ enum Said {
     Failed,
 }
 
+// Word i of the command line; one of more than 20 bytes has none.
+fn word_at(i: usize) -> Word
+    ensures { λ r. ⌜ (r .length ≤ 20) × (length (r .bytes) ≡ 20) ⌝ }
+{
+    let mut bytes = [0u8; 20];
+    if os::arg_count() <= i {
+        return Word {
+            there: false,
+            length: 0,
+            bytes,
+        };
+    }
+    let length = os::arg(i, &mut bytes);
+    Word {
+        there: true,
+        length,
+        bytes,
+    }
+}
+
 // The measure that word i of the command line gives, or another where there is no such word. A word of more than 20 bytes is no measure.
 pub fn measure_word(i: usize, otherwise: usize) -> usize
     ensures { λ r. ⌜ Spelt otherwise r ⌝ }
 {
-    if os::arg_count() <= i {
+    let word = word_at(i);
+    if !word.there {
         return otherwise;
     }
-    let mut word = [0u8; 20];
-    let n = os::arg(i, &mut word);
-    number_word::measure_of_word(&word[..n])
+    let bytes = word.bytes;
+    let n = word.length;
+    number_word::measure_of_word(&bytes[..n])
+}
+
+// The number of items that word i of the command line gives, or another where there is no such word. A word of more than 20 bytes is none.
+pub fn items_word(i: usize, otherwise: usize) -> usize
+    ensures { λ r. ⌜ SpeltItems otherwise r ⌝ }
+{
+    let word = word_at(i);
+    if !word.there {
+        return otherwise;
+    }
+    let bytes = word.bytes;
+    let n = word.length;
+    number_word::items_of_word(&bytes[..n])
 }
 
 // A place for the longest job and one byte, so that a longer one is seen to be longer. A function of its own hides the zeros, of which

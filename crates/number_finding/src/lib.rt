@@ -48,6 +48,9 @@ pub fn refusal_number(why: Refusal) -> u32
         Refusal::UnsoundState => 13,
         Refusal::StartPlace => 14,
         Refusal::Room => 15,
+        Refusal::SequenceOpen => 16,
+        Refusal::TextForm => 17,
+        Refusal::TextState => 18,
     }
 }
 

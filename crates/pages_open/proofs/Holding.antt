@@ -12,12 +12,11 @@ use Rattle.common.proofs.Stores.{wrote-both}
 use Rattle.rules.specs.declared.Refusal.{Refusal}
 use Rattle.rules.specs.declared.Refusal.the-variants.{PageMeasure, StreamLength}
 use Rattle.rules.specs.Measure.{allowed, longestStream, isTooLong}
-use Rattle.rules.specs.Findings.{refusalNumber}
 use Rattle.rules.specs.Plain.{decimal}
 use Rattle.rules.specs.Report.{fields, line, SIZE, refusedLine}
 use Rattle.number_write.proofs.Laws.{decimal-append, decimal-short}
 use Rattle.report_line.proofs.Texts.{line-append}
-use Rattle.report_laws.proofs.Bound.{number-length, two-length}
+use Rattle.report_laws.proofs.Bound.{number-length, two-length, refused-most}
 use Rattle.report_laws.proofs.Whole.{held, held-once}
 use Rattle.pages_open.specs.declared.Beginning.{Beginning}
 use Rattle.pages_open.specs.Opening.{longestHead, longestLines, pbmHead, firstLines, jobRefused, Begins, OneHead, OneOpening}
@@ -35,11 +34,6 @@ head-most W H =
     let i = decimal-short W in
     let j = decimal-short H in
     omega arith
-
--- the line of a refusal
-refused-most : (why : Refusal) → length (refusedLine why) ≤ 29
-unfolding fields
-refused-most why = let a = number-length (refusalNumber why) (10 ∷ []) in let i = decimal-short (refusalNumber why) in omega arith
 
 -- the first lines
 first-most : (W H : ℕ) (s : List ℕ) → length (firstLines W H s) ≤ longestLines

@@ -13,14 +13,16 @@ use Rattle.common.proofs.Choices.{choice, choice-by}
 use Rattle.rules.specs.declared.Measure.{Measure}
 use Rattle.rules.specs.declared.Finding.{Finding}
 use Rattle.rules.specs.declared.Finding.the-variants.{Nothing, EndsInside, CannotStand, NotCarried, NotAllowed, StackLimit, NotNow, DamagedRow}
+use Rattle.rules.specs.declared.Refusal.{Refusal}
+use Rattle.rules.specs.declared.Refusal.the-variants.{StreamLength}
 use Rattle.rules.specs.declared.State.{State}
 use Rattle.rules.specs.Measure.{blank}
 use Rattle.rules.specs.States.{afresh}
-use Rattle.rules.specs.Findings.{findingNumber, isClean}
+use Rattle.rules.specs.Findings.{findingNumber, refusalNumber, isClean}
 use Rattle.rules.specs.Plain.{decimalUpTo, decimal}
 use Rattle.rules.specs.Acts.{World, world, step, over, showAll}
 use Rattle.rules.specs.Run.{wholeStream, firstWorld}
-use Rattle.rules.specs.Report.{faults, fields, line, SIZE, REFUSED, reportWidth, reportHeight, reportLimit, reportPage, report, PAGE, END, fault, pageLines, lastLines, counted, faultAlone, streamLines}
+use Rattle.rules.specs.Report.{faults, fields, line, SIZE, refusedLine, reportWidth, reportHeight, reportLimit, reportPage, report, PAGE, END, fault, pageLines, lastLines, counted, faultAlone, streamLines}
 use Rattle.number_write.proofs.Laws.{decimal-append, decimal-short}
 use Rattle.theorems.proofs.Reading.{left, left-zero}
 use Rattle.theorems.proofs.Streams.{step-left}
@@ -165,15 +167,15 @@ stream-length g s h =
 size-length : (s : List ℕ) → length (line SIZE (reportWidth ∷ reportHeight ∷ []) s) ≤ 13 + length s
 size-length s = omega (arith, two-length 640 800 s, few-digits 2 640 (omega arith), few-digits 2 800 (omega arith))
 
--- REFUSED is shorter than the lines of a stream
-refused-length : length (line REFUSED (12 ∷ []) []) ≤ 121
+-- the line of a refusal
+pub refused-most : (why : Refusal) → length (refusedLine why) ≤ 29
 unfolding fields
-refused-length = let a = number-length 12 (10 ∷ []) in let b = decimal-short 12 in omega arith
+refused-most why = let a = number-length (refusalNumber why) (10 ∷ []) in let i = decimal-short (refusalNumber why) in omega arith
 
 -- a room of the longest report holds any
 pub reports-fit : ReportsFit
 unfolding report
 reports-fit s =
     choice-by (λ (l : List ℕ). length (line SIZE (reportWidth ∷ reportHeight ∷ []) l) ≤ longestReport) (ltb reportLimit (length s))
-    (λ e. let n = size-length (line REFUSED (12 ∷ []) []) in let m = refused-length in omega arith)
+    (λ e. let n = size-length (refusedLine StreamLength) in let m = refused-most StreamLength in omega arith)
     (λ e. let n = size-length (streamLines faultAlone reportPage s) in let m = stream-length reportPage s (ltb-false reportLimit (length s) e) in omega arith)

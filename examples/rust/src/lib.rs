@@ -36,6 +36,8 @@ mod door {
             room_n: usize,
             length: *mut usize,
         ) -> u32;
+        pub fn rov_park(w: usize, h: usize, state: *const u8, state_n: usize, room: *mut u8, room_n: usize, length: *mut usize) -> u32;
+        pub fn rov_unpark(text: *const u8, text_n: usize, w: *mut usize, h: *mut usize, state: *mut u8, state_n: usize) -> u32;
     }
 }
 
@@ -70,6 +72,9 @@ impl Refusal {
     pub const UNSOUND_STATE: Refusal = Refusal(13);
     pub const START_PLACE: Refusal = Refusal(14);
     pub const ROOM: Refusal = Refusal(15);
+    pub const SEQUENCE_OPEN: Refusal = Refusal(16);
+    pub const TEXT_FORM: Refusal = Refusal(17);
+    pub const TEXT_STATE: Refusal = Refusal(18);
 
     pub const fn number(self) -> u32 {
         self.0
@@ -123,12 +128,14 @@ pub struct Ran {
 }
 
 /// A state between calls. It is its bytes: they may be stored and come back as they like, for a run refuses those that are no state. They are of this
-/// version of the library only: keep none across a change of version.
+/// version of the library only: keep none across a change of version. What is kept over a power cut and over versions is the state parked as a text.
 #[derive(Clone, Debug, PartialEq, Eq)]
 pub struct State(pub [u8; State::BYTES]);
 
 impl State {
     pub const BYTES: usize = 808;
+    /// No parked text is longer: a room of so many bytes is always enough.
+    pub const PARKED: usize = 1905;
 
     /// The state at a job's start.
     pub fn afresh(page: Measure) -> Result<State, Refusal> {
@@ -140,6 +147,26 @@ impl State {
 
     pub fn is_sound(&self, page: Measure) -> bool {
         unsafe { door::rov_sound(page.wide, page.high, self.0.as_ptr(), self.0.len()) }
+    }
+
+    /// The state's text: the front of the room, which is not touched behind it. The measure is in it; the page is not, and is to be kept beside it if
+    /// it is used, and so is the place. While a sequence is open there is none, by `Refusal::SEQUENCE_OPEN`: a run of one item more, and again, comes
+    /// to where there is, at the latest at the stream's end.
+    pub fn park<'a>(&self, page: Measure, room: &'a mut [u8]) -> Result<&'a mut [u8], Refusal> {
+        let mut length = 0;
+        let number =
+            unsafe { door::rov_park(page.wide, page.high, self.0.as_ptr(), self.0.len(), room.as_mut_ptr(), room.len(), &mut length) };
+        carried_out(number)?;
+        Ok(&mut room[..length])
+    }
+
+    /// A parked text, of any bytes, read back: the page's measure, which is allowed, and a state that is sound on it, with no sequence open. Of any other
+    /// text there is no state.
+    pub fn unpark(text: &[u8]) -> Result<(Measure, State), Refusal> {
+        let (mut wide, mut high, mut bytes) = (0, 0, [0; State::BYTES]);
+        let number = unsafe { door::rov_unpark(text.as_ptr(), text.len(), &mut wide, &mut high, bytes.as_mut_ptr(), bytes.len()) };
+        carried_out(number)?;
+        Ok((Measure { wide, high }, State(bytes)))
     }
 
     /// At most `allowance` items of the stream, from `place` on; it is moved behind them.

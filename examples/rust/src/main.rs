@@ -1,9 +1,10 @@
-//! A job in slices of time, as examples/pieces.c: the power goes after every turn, and the next turn has only what was kept. At the end
-//! the job is run again in one go: the same findings, pages and end must come out.
+//! A job in slices of time, as examples/pieces.c: the power goes after every turn, and the next turn has only what was kept: the state parked as a
+//! text, the place, and the page if it is used. A state has no text while a sequence is open: then there is a turn of one item more before the power
+//! goes. At the end the job is run again in one go: the same findings, pages and end must come out.
 //!
 //!     pieces JOB [W H [ITEMS]]     W and H are dots, 640 and 800 if not given; at most ITEMS items to a turn, 1000 if not given
 //!
-//! Exit status: 0 the job was read to its end; 1 a word or a file is wrong, or both runs differ; 2 the call was refused.
+//! Exit status: 0 the job was read to its end; 1 a word or a file is wrong, or both runs differ; 2 the call was refused, or the kept text was.
 use rovinuset::{Finding, Measure, Refusal, State};
 use std::num::NonZeroUsize;
 use std::process::ExitCode;
@@ -46,10 +47,11 @@ struct Engine<'a> {
     page: Vec<u8>,
 }
 
-/// What outlasts a power cut. A page that is not used need not be kept: the next item zeroes it.
+/// What outlasts a power cut. The text holds the measure and the state; unlike the state's bytes it outlasts a change of the library's version too. A
+/// page that is not used need not be kept: the next item zeroes it.
 struct Kept {
     place: usize,
-    state: [u8; State::BYTES],
+    text: Vec<u8>,
     page: Option<Vec<u8>>,
 }
 
@@ -75,15 +77,32 @@ impl<'a> Engine<'a> {
         Ok(ran.finding.is_some() || ran.page_ended || ran.done == items)
     }
 
-    fn lost(self) -> Kept {
-        let page = self.state.page_used().then_some(self.page);
-        Kept { place: self.place, state: self.state.0, page }
+    /// Refused where a sequence is open.
+    fn kept(&self) -> Result<Kept, Refusal> {
+        let mut room = [0; State::PARKED];
+        let text = self.state.park(self.measure, &mut room)?.to_vec();
+        let page = self.state.page_used().then(|| self.page.clone());
+        Ok(Kept { place: self.place, text, page })
     }
 
-    /// Nothing needs to be tested here: the next run refuses what is no state of this page or no place of this job.
-    fn restored(measure: Measure, job: &'a [u8], kept: Kept) -> Self {
+    /// Switched off: what is not kept is lost. While a sequence is open nothing can be kept, and the job goes on by one item and one again. That comes
+    /// to an end, at the latest at the job's end, which closes every sequence. Gives also whether there may be more to do.
+    fn switched_off(mut self, mut more: bool, out: &mut Outcome) -> Result<(Kept, bool), Refusal> {
+        loop {
+            match self.kept() {
+                Err(Refusal::SEQUENCE_OPEN) => more = self.turn(1, out)?,
+                kept => return Ok((kept?, more)),
+            }
+        }
+    }
+
+    /// Nothing needs to be tested but what the call gives: a text that is cut short or garbled is refused, and then there is no state, and the job is
+    /// to be started again. What is read is a state that a run takes; it refuses what is no place of this job. A text that is damaged can still
+    /// be one, as a digit is as good as another: a controller keeps a checksum beside it.
+    fn restored(job: &'a [u8], kept: Kept) -> Result<Self, Refusal> {
+        let (measure, state) = State::unpark(&kept.text).inspect_err(|_| println!("the kept text holds no state"))?;
         let page = kept.page.unwrap_or_else(|| vec![0xFF; measure.page_bytes()]);
-        Engine { measure, job, place: kept.place, state: State(kept.state), page }
+        Ok(Engine { measure, job, place: kept.place, state, page })
     }
 }
 
@@ -91,9 +110,13 @@ impl<'a> Engine<'a> {
 fn run_job(measure: Measure, job: &[u8], items: usize, cuts: bool) -> Result<(Outcome, State), Refusal> {
     let mut out = Outcome { aloud: cuts, ..Outcome::default() };
     let mut engine = Engine::new(measure, job)?;
-    while engine.turn(items, &mut out)? {
+    let mut more = true;
+    while more {
+        more = engine.turn(items, &mut out)?;
         if cuts {
-            engine = Engine::restored(measure, job, engine.lost());
+            let kept;
+            (kept, more) = engine.switched_off(more, &mut out)?;
+            engine = Engine::restored(job, kept)?;
         }
     }
     if engine.state.page_used() {

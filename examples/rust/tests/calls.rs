@@ -79,6 +79,69 @@ fn each_refusal_has_its_number() {
     assert_eq!(State::afresh(narrow), Err(Refusal::PAGE_MEASURE));
 }
 
+/// The state after a stream, parked in a room that is always enough.
+fn parked(stream: &[u8]) -> Vec<u8> {
+    let mut room = [0; State::PARKED];
+    run(stream).1.park(PAGE, &mut room).unwrap().to_vec()
+}
+
+#[test]
+fn a_state_is_parked_and_read_back() {
+    let (_, state, _) = run(b"\x1b&f0Sab\x1b*b2W\xa5\x0f");
+    let mut text = b"JOB\t640\t800\t0\t4596\t0\t15360\t3600\t720\t1200\t0\t75\t0\t1\t0\t1\t1\nPOS\t0\t4500\nROW\tA50F".to_vec();
+    text.extend([b'0'; 156]);
+    text.push(b'\n');
+    let mut room = [0xA5; State::PARKED];
+    assert_eq!(state.park(PAGE, &mut room).unwrap(), text);
+    assert!(room[text.len()..].iter().all(|&byte| byte == 0xA5));
+    assert_eq!(State::unpark(&text), Ok((PAGE, state)));
+}
+
+/// A parking that is refused leaves the room as it was.
+fn not_parked(measure: Measure, state: &State, room_bytes: usize) -> Refusal {
+    let mut room = vec![0xA5; room_bytes];
+    let refusal = state.park(measure, &mut room).unwrap_err();
+    assert!(room.iter().all(|&byte| byte == 0xA5));
+    refusal
+}
+
+#[test]
+fn each_refusal_of_parking_has_its_number() {
+    let state = State::afresh(PAGE).unwrap();
+    let unsound = State([0xFF; State::BYTES]);
+    let mut open = State::afresh(PAGE).unwrap();
+    open.run(PAGE, &mut vec![0; PAGE_BYTES], b"\x1b&a1c2C", &mut 0, 1).unwrap();
+    let length = parked(b"").len();
+    let cases = [
+        (not_parked(Measure { wide: 7, high: 800 }, &unsound, 0), Refusal::PAGE_MEASURE, 10),
+        (not_parked(PAGE, &unsound, 0), Refusal::UNSOUND_STATE, 13),
+        (not_parked(Measure { wide: 8, high: 1 }, &state, State::PARKED), Refusal::UNSOUND_STATE, 13),
+        (not_parked(PAGE, &open, 0), Refusal::SEQUENCE_OPEN, 16),
+        (not_parked(PAGE, &state, length - 1), Refusal::ROOM, 15),
+    ];
+    for (given, refusal, number) in cases {
+        assert_eq!((given, given.number()), (refusal, number));
+    }
+    assert!(state.park(PAGE, &mut vec![0; length]).is_ok());
+}
+
+#[test]
+fn each_refusal_of_reading_has_its_number() {
+    let text = parked(b"");
+    let front = |old: &[u8], new: &[u8]| [new, text.strip_prefix(old).unwrap()].concat();
+    let cases = [
+        (text[..text.len() - 1].to_vec(), Refusal::TEXT_FORM, 17),
+        ([&text[..], b"\n"].concat(), Refusal::TEXT_FORM, 17),
+        (front(b"JOB\t640", b"JOB\t0640"), Refusal::TEXT_FORM, 17),
+        (front(b"JOB\t640\t800", b"JOB\t640\t6801"), Refusal::TEXT_STATE, 18),
+        (front(b"JOB\t640\t800\t0", b"JOB\t640\t800\t15361"), Refusal::TEXT_STATE, 18),
+    ];
+    for (text, refusal, number) in cases {
+        assert_eq!(State::unpark(&text), Err(refusal));
+        assert_eq!(refusal.number(), number);
+    }
+}
+
 #[test]
 fn a_plain_stream_is_the_front_of_its_room() {
     let mut room = [0xA5; 16];
@@ -92,4 +155,6 @@ fn empty_slices_are_not_read() {
     assert_eq!(run(b"").0, Ran { done: 0, finding: None, page_ended: false });
     assert_eq!(PAGE.dots(&[]), 0);
     assert_eq!(PAGE.translate(b"", &mut []).unwrap(), b"");
+    assert_eq!(State::unpark(b""), Err(Refusal::TEXT_FORM));
+    assert_eq!(State::afresh(PAGE).unwrap().park(PAGE, &mut []), Err(Refusal::ROOM));
 }

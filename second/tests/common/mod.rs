@@ -1,4 +1,5 @@
-//! What the tests share: a stream read to its end, item by item.
+//! What the tests share: a stream read to its end, item by item; the program as
+//! it is called; numbers that look random.
 
 #![allow(dead_code)]
 
@@ -7,6 +8,8 @@ use second::measure::{Measure, LONGEST_STREAM};
 use second::plain::translate;
 use second::run::{has_item, run};
 use second::state::State;
+use std::io::Write;
+use std::process::{Command, Stdio};
 
 /// What a whole stream gave.
 pub struct Outcome {
@@ -113,4 +116,48 @@ pub fn plain(stream: &[u8]) -> Vec<u8> {
 /// The parts of a stream put together.
 pub fn join(parts: &[&[u8]]) -> Vec<u8> {
     parts.concat()
+}
+
+/// Exit status, standard output, standard error.
+pub fn call(words: &[&str], input: &[u8]) -> (i32, Vec<u8>, String) {
+    let mut child = Command::new(env!("CARGO_BIN_EXE_second"))
+        .args(words)
+        .stdin(Stdio::piped())
+        .stdout(Stdio::piped())
+        .stderr(Stdio::piped())
+        .spawn()
+        .expect("the program starts");
+    let mut stdin = child.stdin.take().expect("its standard input");
+    // The program may stop reading a long input before its end.
+    let _ = stdin.write_all(input);
+    drop(stdin);
+    let done = child.wait_with_output().expect("the program ends");
+    let error = String::from_utf8(done.stderr).expect("text");
+    (done.status.code().unwrap_or(-1), done.stdout, error)
+}
+
+pub fn call_for_text(words: &[&str], input: &[u8]) -> (i32, String, String) {
+    let (status, out, error) = call(words, input);
+    (status, String::from_utf8(out).expect("text"), error)
+}
+
+/// Numbers that are the same every time.
+pub struct Random(pub u64);
+
+impl Random {
+    pub fn next(&mut self) -> u64 {
+        self.0 = self
+            .0
+            .wrapping_mul(6_364_136_223_846_793_005)
+            .wrapping_add(1_442_695_040_888_963_407);
+        self.0 >> 33
+    }
+
+    pub fn below(&mut self, end: usize) -> usize {
+        self.next() as usize % end
+    }
+
+    pub fn byte(&mut self) -> u8 {
+        self.next() as u8
+    }
 }

@@ -1,0 +1,3 @@
+-- The laws of a job run afresh.
+pub mod Runs
+pub mod Answers

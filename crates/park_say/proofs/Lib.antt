@@ -1,0 +1,2 @@
+-- The laws of what the program `park` says.
+pub mod Spoken

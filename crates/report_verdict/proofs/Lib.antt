@@ -1,0 +1,2 @@
+-- The laws of what is said by a verdict.
+pub mod Spoken

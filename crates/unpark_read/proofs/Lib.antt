@@ -1,0 +1,4 @@
+pub mod Parts
+pub mod Judging
+pub mod Holding
+pub mod Reading

@@ -1,0 +1,4 @@
+-- The laws of what the program `unpark` says.
+pub mod Members
+pub mod Spoken
+pub mod Bounds
