@@ -28,7 +28,6 @@ NAMED = (
     ("finding 6: a start of raster that is started", b"\x1b*r1a", b"1a"),
     ("finding 7: a damaged row by method 2", b"\x1b*b2m", b"1w\x05"),
     ("finding 7: a damaged row by method 3", b"\x1b*b3m", b"1w\xff"),
-    ("finding 8: a number cut short, in an open sequence", b"\x1b&a", b"99999h"),
     ("FF: a page for each", b"", b"\f"),
     ("text, for comparison", b"", b"A"),
 )

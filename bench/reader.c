@@ -27,8 +27,8 @@ struct reader {
 };
 
 struct value {
-    bool relative, negative, cut; /* cut: the size was lowered */
-    uint32_t size;                /* in ten-thousandths */
+    bool relative, negative;
+    uint32_t size; /* in ten-thousandths */
 };
 
 /* A command as it was sent. The key of a two-byte command is its byte; that of a sequence has the first byte and the group too. */
@@ -300,9 +300,10 @@ static uint32_t row(struct reader *r, struct value v, const uint8_t *payload, si
 
 #define KEY(first, group, letter) ((uint32_t)(first) << 16 | (uint32_t)(group) << 8 | (uint32_t)(letter))
 
-static uint32_t valued(struct reader *r, const struct sent *c) {
+static uint32_t command(struct reader *r, const struct sent *c) {
     struct state *s = &r->st;
     struct value v = c->v;
+    if (c->key < 256) return two_bytes(r, (uint8_t)c->key);
     switch (c->key) {
     case KEY('&', 'a', 'C'): return go_x(r, v, s->hmi);
     case KEY('&', 'a', 'H'): return go_x(r, v, 10);
@@ -321,6 +322,8 @@ static uint32_t valued(struct reader *r, const struct sent *c) {
     case KEY('&', 'p', 'X'): return transparent(r, v, c->payload, c->count);
     case KEY('*', 't', 'R'): return resolution(r, v);
     case KEY('*', 'r', 'A'): return raster_start(r, v);
+    case KEY('*', 'r', 'B'): s->started = 0; return 0;
+    case KEY('*', 'r', 'C'): return raster_reset(r);
     case KEY('*', 'b', 'M'): return row_method(r, v);
     case KEY('*', 'b', 'Y'): return rows_down(r, v);
     case KEY('*', 'b', 'W'): return row(r, v, c->payload, c->count);
@@ -328,23 +331,11 @@ static uint32_t valued(struct reader *r, const struct sent *c) {
     }
 }
 
-/* A command that used a number cut short was carried out: 8, unless it has another finding. */
-static uint32_t command(struct reader *r, const struct sent *c) {
-    uint32_t finding;
-    if (c->key < 256) return two_bytes(r, (uint8_t)c->key);
-    switch (c->key) { /* these two use no number */
-    case KEY('*', 'r', 'B'): r->st.started = 0; return 0;
-    case KEY('*', 'r', 'C'): return raster_reset(r);
-    }
-    finding = valued(r, c);
-    return !finding && c->v.cut ? 8 : finding;
-}
-
 /* ---- items: inline, as the run and the translator both go through them */
 static bool is_digit(const struct reader *r) { return r->at < r->n && r->stream[r->at] >= '0' && r->stream[r->at] <= '9'; }
 
 static struct value read_value(struct reader *r) {
-    struct value v = {false, false, false, 0};
+    struct value v = {false, false, 0};
     uint32_t units = 0, part = 0, scale = 1000;
     if (r->at < r->n && (r->stream[r->at] == '+' || r->stream[r->at] == '-')) {
         v.relative = true;
@@ -355,7 +346,6 @@ static struct value read_value(struct reader *r) {
     if (r->at < r->n && r->stream[r->at] == '.') {
         for (r->at++; is_digit(r); r->at++, scale /= 10) part += (r->stream[r->at] - '0') * scale;
     }
-    v.cut = units > 32767 || (units == 32767 && part); /* places behind the fourth are dropped before this */
     v.size = units > 32766 ? 327670000 : units * 10000 + part;
     return v;
 }
@@ -531,7 +521,7 @@ static void translate_items(struct reader *r, struct out *o) {
     uint8_t byte;
     if (at_command(r)) {
         finding = do_command(r, &c);
-        if (finding == 0 || finding == 7 || finding == 8) put_command(o, r, &c);
+        if (finding == 0 || finding == 7) put_command(o, r, &c);
         return;
     }
     byte = r->stream[r->at];

@@ -92,7 +92,6 @@ static const struct kind kinds[] = {
     {"damaged row, method 1", S("\33*b1m3W\x05\xA5\xFF"), 7},
     {"damaged row, method 2", S("\33*b2m1W\xFE"), 7},
     {"damaged row, method 3", S("\33*b3m2W\x1F\xFF"), 7},
-    {"number cut short", S("\33&a40000h-40000V\33*p+99999x32767.0001Y\33&k40000H"), 8},
     {"the stream ends in a sequence", S("\33&a12.5"), 1},
     {"payload is short", S("\33*b9W\x01"), 1},
     {"a byte that can't stand", S("\33&a1c\n"), 2},

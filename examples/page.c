@@ -24,7 +24,6 @@ static const char *found_in_words(uint32_t finding) {
     case ROV_FINDING_STACK_LIMIT: return "push when full, or pop when empty";
     case ROV_FINDING_NOT_NOW: return "not allowed at this moment";
     case ROV_FINDING_DAMAGED_ROW: return "damaged row: it is drawn as a row of zeros";
-    case ROV_FINDING_CUT_SHORT: return "number cut short: the command is carried out with 32,767";
     default: return "a finding this program does not know";
     }
 }

@@ -5,16 +5,14 @@
 #include <stddef.h>
 #include <stdint.h>
 
-/* The value at a place of a stream: 0 absolute, 1 relative with a plus, 2 with a minus; its size in ten-thousandths; the place behind it; 1 if its size
- * was lowered to 32,767, else 0. */
+/* The value at a place of a stream: 0 absolute, 1 relative with a plus, 2 with a minus; its size in ten-thousandths; the place behind it. */
 uint32_t rov_value_sign(const uint8_t *s, size_t n, size_t at);
 uint32_t rov_value_size(const uint8_t *s, size_t n, size_t at);
 size_t rov_value_next(const uint8_t *s, size_t n, size_t at);
-uint32_t rov_value_cut(const uint8_t *s, size_t n, size_t at);
 
 /* The item at a place, with the sequence (first, group) open, 0 0 for none. Fields: 0 kind (0 text, 1 code, 2 two-byte command,
  * 3 command, 4 broken), 1 the place behind it, 2 and 3 the sequence then open, 4 the byte, the command's number or the finding,
- * 5 and 6 the value's sign and size, 7 and 8 the payload's places, 9 is 1 if the value's size was lowered, else 0. */
+ * 5 and 6 the value's sign and size, 7 and 8 the payload's places. */
 size_t rov_item_field(const uint8_t *s, size_t n, size_t at, uint8_t first, uint8_t group, uint8_t field);
 
 /* A row of `wide` bytes decoded into the seed row, an array of 600; true if it came whole. */

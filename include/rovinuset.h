@@ -26,8 +26,7 @@ enum {
     ROV_FINDING_NOT_ALLOWED = 4,  /* value not allowed */
     ROV_FINDING_STACK_LIMIT = 5,  /* push when full, or pop when empty */
     ROV_FINDING_NOT_NOW = 6,      /* not allowed at this moment */
-    ROV_FINDING_DAMAGED_ROW = 7,  /* damaged row: drawn as a row of zeros */
-    ROV_FINDING_CUT_SHORT = 8     /* number cut short: the command was carried out with 32,767 */
+    ROV_FINDING_DAMAGED_ROW = 7   /* damaged row: drawn as a row of zeros */
 };
 
 /* What rov_afresh, rov_run, rov_translate, rov_park and rov_unpark give back. Refused: nothing was done. */

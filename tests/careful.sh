@@ -388,7 +388,7 @@ descriptors() {
 # A checkout in which something of the tools is missing: that is no finding.
 broken_checkout() {
   local name
-  for name in png files sent rovinuset; do
+  for name in png files rovinuset; do
     built broken
     rm -f broken/tools/$name.py
     run "draw, without tools/$name.py" broken/rovinuset draw 640 800 paper.pcl -o none

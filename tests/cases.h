@@ -8,7 +8,7 @@
 #include <string.h>
 
 enum { MOST_STREAM = 1 << 21, GUARD = 64, GUARD_BYTE = 0x5A, JUNK = 77, MOST_OUTCOMES = 64 };
-enum { FINDINGS = ROV_FINDING_CUT_SHORT + 1 }; /* with 0, none */
+enum { FINDINGS = ROV_FINDING_DAMAGED_ROW + 1 }; /* with 0, none */
 
 /* Lent bytes with guard bytes before and behind them. */
 struct lent {

@@ -88,24 +88,6 @@ call report 640 800 empty
 gives 0 empty.txt
 emptily
 
-# A number cut short is finding 8, by both programs: it is said, and the command is carried out. The paper's example 5; then two in an open sequence, and one
-# that is not lowered; then what uses no number, and what has another finding.
-while read -r job faults end; do
-  printf "$job" >cut.pcl
-  { printf 'SIZE\t640\t800\n'; [ "$faults" = none ] || printf "$faults"; printf "END\t$end\n"; } >wanted
-  for words in "" "640 800"; do
-    call report $words cut.pcl
-    gives "$([ "$faults" = none ]; echo $?)" wanted
-    quietly
-  done
-done <<'JOBS'
-\33&a99999H FAULT\t0\t8\n 15360\t4500\t0\t1
-\33&a40000c-99999v5R FAULT\t0\t8\nFAULT\t9\t8\n 15360\t10500\t0\t2
-\33*p32767.5x32767.00009x32767.0001Y FAULT\t0\t8\nFAULT\t23\t8\n 15360\t19200\t0\t2
-\33*r40000B\33*r-40000C\33*p32767X none 15360\t4500\t0\t0
-\33*t40000R\33&z40000Z\33&f40000S FAULT\t0\t4\nFAULT\t9\t3\nFAULT\t18\t4\n 0\t4500\t0\t3
-JOBS
-
 # The pages and lines of other jobs on other pages: the second program's pages, and its lines out of its trace and its marks.
 paged=0
 while read -r job page wide high; do
@@ -341,31 +323,6 @@ call plain paper.pcl
 right "status $status, not 1" [ "$status" -eq 1 ]
 printf '%s\n' 'finding 5, push when full, pop when empty: 1, the first at place 0' "$default" "1 page, 1 finding, 9 dots: passed on as $(wc -c <printed) bytes" >wanted
 right "says: $(cat errors)" cmp -s wanted errors
-# A number cut short is passed on as it was used, and said; in what is passed on there is nothing to find.
-while read -r job plain said_so; do
-  printf "$job" >cut.pcl
-  printf "$plain" >passed.pcl
-  printf '%s\n' "finding 8, number cut short: $said_so" "$default" "0 pages, ${said_so%%,*} finding$([ "${said_so%%,*}" = 1 ] || echo s), 0 dots: passed on as $(wc -c <passed.pcl) bytes" >wanted
-  call plain cut.pcl
-  gives 1 passed.pcl
-  right "says: $(cat errors)" cmp -s wanted errors
-  call plain passed.pcl
-  gives 0 passed.pcl
-  quietly
-done <<'JOBS'
-\33&a99999H \33&a32767H 1, the first at place 0
-\33&a-40000c5c+32767.5V \33&a-32767C\33&a5C\33&a+32767V 2, the first at place 0
-\33*p00032767.00009x99999.Y \33*p32767X\33*p32767Y 1, the first at place 18
-JOBS
-{ printf '\33&p40000X'; head -c 32767 /dev/zero; } >cut.pcl
-{ printf '\33&p32767X'; head -c 32767 /dev/zero; } >passed.pcl
-call plain cut.pcl
-gives 1 passed.pcl
-right "says: $(cat errors)" cmp -s errors <(printf '%s\n' "finding 8, number cut short: 1, the first at place 0" "$default" "1 page, 1 finding, 0 dots: passed on as 32776 bytes")
-{ printf '\33*b40000W\1'; head -c 32766 /dev/zero; } >cut.pcl
-printf '\33*b1W\1' >passed.pcl
-call plain cut.pcl
-gives 1 passed.pcl
 # Findings that cannot be told are no clean end, and no other one.
 said="plain paper.pcl 2>/dev/full" status=0
 "${command[@]}" plain paper.pcl >printed 2>/dev/full || status=$?

@@ -6,8 +6,8 @@
 
 enum { PAGE_ENDED = FINDINGS, REFUSED }; /* the findings come first, the refusals last */
 static const char *const outcomes[] = {
-    "no finding", "finding 1", "finding 2", "finding 3", "finding 4", "finding 5", "finding 6", "finding 7", "finding 8",
-    "page ended", "refused 10", "refused 11", "refused 12", "refused 13", "refused 14"};
+    "no finding", "finding 1", "finding 2", "finding 3", "finding 4", "finding 5", "finding 6", "finding 7", "page ended",
+    "refused 10", "refused 11", "refused 12", "refused 13", "refused 14"};
 
 /* What a call gives in numbers, with guards between them. */
 struct numbers {

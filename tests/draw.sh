@@ -166,53 +166,6 @@ head -c 1048576 /dev/zero | tr '\0' A >text.pcl
 call draw 640 800 text.pcl -o texts
 tells 0 "nothing was drawn: no page has a dot" "1,048,576 text bytes moved the cursor and were not drawn" "1 page, 0 findings, 0 dots: texts"
 
-# ---- numbers cut short: findings.txt says what was sent and what was used, for each. lowered PLACE SENT USED: so it says it. found_in JOB LINES..: of
-# this job (a format of printf) it has just these findings in words, and the terminal has the count.
-lowered() { echo "place $1, page 1: finding 8, number cut short. $2 was sent, $3 was used: the command was carried out with it."; }
-found_in() {
-  local job=$1 count
-  shift
-  printf "$job" >cut.pcl
-  call draw 640 800 cut.pcl -o cut
-  said="draw, a job of ${job:0:60}"
-  right "status $status, not $(($# > 0))" [ "$status" -eq $(($# > 0)) ]
-  grep '^place ' cut/findings.txt >given || :
-  right "findings.txt says: $(cut -c 1-200 given)" cmp -s given <([ $# -eq 0 ] || printf '%s\n' "$@")
-  count=$(printf '%s\n' "$@" | grep -c 'finding 8, ' || :)
-  right "the terminal says: $(cat printed)" [ "$(sed -n 's/^finding 8, number cut short: \([0-9]*\), the first at place [0-9]*$/\1/p' printed)" = "${count#0}" ]
-}
-digits=1234567890 ten=$(printf '1234567890%.0s' {1..10}) zeros=$(printf '%032767d' 0)
-found_in '\33&a40000C\f' "$(lowered 0 40000 32767)"
-found_in '\33&a-40000C\f' "$(lowered 0 -40000 -32767)"
-found_in '\33&a+99999H\f' "$(lowered 0 +99999 +32767)"
-found_in '\33*p32767.5X\f' "$(lowered 0 32767.5 32767)"
-found_in '\33*p32767.0001Y\f' "$(lowered 0 32767.0001 32767)"
-found_in '\33&a-32767.0001R\f' "$(lowered 0 -32767.0001 -32767)"
-found_in '\33&a0040000.50V\f' "$(lowered 0 0040000.50 32767)"
-found_in '\33&k40000.H\f' "$(lowered 0 40000. 32767)"
-found_in '\33*r0A\33*b32767.5Y\f' "$(lowered 5 32767.5 32767)" # though the whole part stays
-found_in "\\33&a$digits${digits}C\\f" "$(lowered 0 $digits$digits 32767)"
-found_in "\\33&a$digits${digits}1234C\\f" "$(lowered 0 $digits${digits}1234 32767)"
-found_in "\\33&a-$digits${digits}1234C\\f" "$(lowered 0 "-$digits${digits}123… (25 bytes)" -32767)"
-found_in "\\33&a$ten$ten$ten$ten$ten$ten$ten$ten$ten${ten}C\\f" "$(lowered 0 "$digits${digits}1234… (1,000 bytes)" 32767)"
-found_in "\\33&a32767.$ten$ten${ten}C\\f" "$(lowered 0 "32767.${digits}12345678… (306 bytes)" 32767)"
-found_in '\33&a40000c-99999v5R\f' "$(lowered 0 40000 32767)" "$(lowered 9 -99999 -32767)" # in an open sequence
-found_in '\33&a5c40000R\33*p+40000Y\f' "$(lowered 5 40000 32767)" "$(lowered 11 +40000 +32767)"
-found_in "\\33*b40000W$zeros\\f" "$(lowered 0 40000 32767)"
-found_in "\\33&p40000X$zeros\\f" "$(lowered 0 40000 32767)"
-right "the payload is not counted: $(cat printed)" grep -qx '32,767 text bytes moved the cursor and were not drawn' printed
-found_in "\\33*b40000w${zeros}1WA\\33&p1xA40000X$zeros\\f" "$(lowered 0 40000 32767)" "$(lowered 32785 40000 32767)"
-# None is cut short that is not over 32,767 with its four places, and where it is not used, or there is another finding, that is said.
-found_in '\33*p32767X\33*p-32767.00009X\33*p032767.0000Y\33*r40000B\33*r99999.5C\f'
-found_in '\33*t40000R\33&z40000Z\f' "place 0, page 1: finding 4, value not allowed. The command and its payload were left out." \
-  "place 9, page 1: finding 3, command not carried. The command and its payload were left out."
-found_in "\\33*b2M\\33*b40000W$zeros\\f" "place 5, page 1: finding 7, damaged row. A blank row was drawn in its place."
-found_in '\33*b40000W\f' "place 0, no page: finding 1, the job ends inside a sequence, or payload is short. The bytes up to the end were taken, nothing was done."
-# As many as a job can have: each has its words.
-{ printf '\33&a'; yes 99999c | tr -d '\n' | head -c 1048572; printf '\33'; } >cut.pcl
-call draw 640 800 cut.pcl -o cut
-right "$(grep -c '99999 was sent, 32767 was used' cut/findings.txt) are told" [ "$(grep -c '^place .* no page: finding 8, .* 99999 was sent, 32767 was used' cut/findings.txt)" -eq 174762 ]
-
 # ---- how many pages are drawn: all are counted and named, whichever have a picture.
 python3 -c 'import sys; sys.stdout.buffer.write(b"\33*t300R" + b"".join(b"\33*b1W%c\33&f1S\f" % (2 ** (n + 1) - 1) for n in range(5)))' >five.pcl
 five='finding 5, push when full, pop when empty: 5, the first at place 13'
@@ -447,34 +400,6 @@ FAULT\t0\t5\nMARK\t0\t5\t0\t0\nMARK\t0\t5\t0\t0\nEND\t0\t0\t0\t1\n MARK\t0\t5\t0
 FAULT\t0\t5\nFAULT\t1\t5\nMARK\t0\t5\t0\t0\nMARK\t1\t5\t0\t0\nEND\t0\t0\t0\t2\n FAULT\t1\t5
 MARK\t0\t5\t0\t0\nEND\t0\t0\t0\t0\n MARK\t0\t5\t0\t0
 LINES
-stays
-# Whatever bytes a finding 8 begins with, nothing of them but a number is shown. told_of PLACE JOB WORDS: so it is told of this job if the program says 8 there.
-told_of() {
-  said="finding 8 at place $1 of ${2:0:60}" status=0
-  printf -- "$2" >odd.pcl
-  fake checkout pages 'cat >/dev/null' "printf 'SIZE\\t640\\t800\\nFAULT\\t$1\\t8\\nMARK\\t$1\\t8\\t0\\t0\\nEND\\t0\\t0\\t0\\t1\\n' >&2"
-  checkout/rovinuset draw 640 800 odd.pcl -o odd >printed 2>errors || status=$?
-  ends 1 "0 pages, 1 finding, 0 dots: odd"
-  right "says: $(grep '^place ' odd/findings.txt)" grep -qxF "place $1, no page: finding 8, number cut short. $3" odd/findings.txt
-}
-of_all="The number's size was lowered to 32,767, and the command was carried out with it."
-used="32767 was used: the command was carried out with it."
-for job in '' '\33' '\33&' '\33&a' '\33&aC' '\33E40000' '\33&a+C' '\33&a-.C' '\33\33&a40000C' '<b>40000' '\33[31m' '\377\0' ' 40000' '\33&\33a4' 'A4' '\33&aa4' '--4' '+-4'; do
-  told_of 0 "$job" "$of_all"
-done
-told_of 3 '\33&a' "$of_all"
-told_of 1048576 '\33&a40000C' "$of_all"
-told_of 18446744073709551615 '\33&a40000C' "$of_all"
-told_of 2 '\33a40000<b>' "40000 was sent, $used"
-told_of 0 '\33!40000' "40000 was sent, $used"
-told_of 0 '\33/~-40000.5.5\33[31m' "-40000.5 was sent, -$used"
-told_of 0 '\33+-40000-' "-40000 was sent, -$used"
-told_of 0 '\33&a.40000\377' ".40000 was sent, $used"
-told_of 0 '99999' "99999 was sent, $used"
-told_of 3 "\\33&a$(printf '%01048570d' 0)" "000000000000000000000000… (1,048,570 bytes) was sent, $used"
-# A number that is of no finding is no line of the program's.
-said="finding 9" && tool "printf 'SIZE\\t640\\t800\\nFAULT\\t0\\t9\\nMARK\\t0\\t9\\t0\\t0\\nEND\\t0\\t0\\t0\\t1\\n' >&2"
-refuses "not written: the program broke off: FAULT"
 stays
 said="the program plain fails"
 fake checkout plain 'cat >/dev/null; exit 1'

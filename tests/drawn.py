@@ -31,7 +31,6 @@ KINDS = {
     5: "push when full, pop when empty",
     6: "not allowed at this moment",
     7: "damaged row",
-    8: "number cut short",
 }
 
 

@@ -90,7 +90,7 @@ while read -r number name; do
   names=$((names + 1))
   check "docs/DOOR.md has no row for ROV_$name, $number" grep -qE "^\| $number \|( [0-9]+ \|)? \`$name\` \|" docs/DOOR.md
 done < <(sed -nE 's/^ *ROV_([A-Z_]+) = ([0-9]+).*/\2 \1/p' include/rovinuset.h)
-check "the header has 19 numbers and 18 offsets, not $names of both" [ "$names" -eq 37 ]
+check "the header has 18 numbers and 18 offsets, not $names of both" [ "$names" -eq 36 ]
 measured=0
 while read -r call used; do
   measured=$((measured + 1))

@@ -43,10 +43,6 @@ EDGE_NUMBERS = [
     b"18446744073709551616", b"340282366920938463463374607431768211456", b"000000032767.0001",
     b"00000000000000000000000000000001.5",
 ]
-# About the greatest size, 32,767: numbers that keep their size, places behind the fourth being dropped before, and such as are lowered.
-KEPT = (b"32766.9999", b"32766.99999", b"32767", b"32767.", b"32767.0000", b"32767.00009", b"0000032767")
-LOWERED = (b"32767.0001", b"32767.00019", b"32767.5", b"32767.9999", b"32768", b"40000", b"40000.5", b"65536", b"99999", b"4294967297",
-           b"12345678901234567890", b"00000000000000032768")
 # Bytes beside the ranges of the reader.
 EDGE_BYTES = bytes([
     0, 8, 9, 10, 12, 13, 26, 27, 28, 31, 32, 33, 38, 42, 43, 44, 45, 46, 47, 48, 57, 58, 63, 64,
@@ -131,10 +127,6 @@ class Cases:
     def value(self):
         return self.one_of(SIGNS) + self.number()
 
-    def great(self):
-        """A value about the greatest: lowered, or just not."""
-        return self.one_of(SIGNS) + self.one_of(LOWERED if self.share() < 0.65 else KEPT)
-
     def junk(self):
         share = self.share()
         if share < 0.3:
@@ -198,11 +190,11 @@ class Cases:
         has_payload = (capital == b"W" or (first, group, capital) == (b"&", b"p", b"X")
                        or (first, group, capital) == (b"*", b"b", b"V"))
         if not has_payload or self.share() < 0.15:
-            value = self.great() if self.share() < 0.1 else self.value()
-            return value + ending + (self.bytes(self.below(4)) if has_payload else b"")
-        if self.share() < 0.02:
-            # The longest payload there is, by a count that is lowered or just not; the stream may be one byte short or long.
-            return self.great() + ending + b"\x1bE" + self.bytes(32765 + self.between(-1, 1))
+            return self.value() + ending + (self.bytes(self.below(4)) if has_payload else b"")
+        if self.share() < 0.001:
+            # A lowered count; the stream may be one byte short or long.
+            number = self.one_of((b"32767", b"32768", b"32767.5", b"+40000", b"65536"))
+            return number + ending + b"\x1bE" + self.bytes(32765 + self.between(-1, 1))
         count = self.below(9) if self.share() < 0.9 else self.below(60)
         number = b"%d" % count
         share = self.share()

@@ -5,7 +5,7 @@
 #include <stdlib.h>
 #include <string.h>
 
-enum { LONGEST = 1 << 18 }; /* an item's stream may have some payloads of 32,767 bytes */
+enum { LONGEST = 1 << 16 };
 
 static char line[2 * LONGEST + 4096];
 static uint8_t first_bytes[LONGEST], second_bytes[LONGEST];
@@ -38,16 +38,15 @@ static size_t number_of(const char *word) { return (size_t)strtoull(word, NULL, 
 
 static void value_case(char **w, size_t number) {
     size_t at = number_of(w[1]), n = bytes_of(w[2], first_bytes, number);
-    printf("%u %u %zu %u\n", rov_value_sign(first_bytes, n, at), rov_value_size(first_bytes, n, at), rov_value_next(first_bytes, n, at),
-           rov_value_cut(first_bytes, n, at));
+    printf("%u %u %zu\n", rov_value_sign(first_bytes, n, at), rov_value_size(first_bytes, n, at), rov_value_next(first_bytes, n, at));
 }
 
 static void item_case(char **w, size_t number) {
     uint8_t first = (uint8_t)number_of(w[1]), group = (uint8_t)number_of(w[2]);
-    size_t at = number_of(w[3]), n = bytes_of(w[4], first_bytes, number), f[10];
-    for (uint8_t i = 0; i < 10; i++) f[i] = rov_item_field(first_bytes, n, at, first, group, i);
+    size_t at = number_of(w[3]), n = bytes_of(w[4], first_bytes, number), f[9];
+    for (uint8_t i = 0; i < 9; i++) f[i] = rov_item_field(first_bytes, n, at, first, group, i);
     printf("%zu %zu %zu %zu %zu", f[0], f[1], f[2], f[3], f[4]);
-    if (f[0] == 3) printf(" %zu %zu %zu %zu %zu", f[5], f[6], f[7], f[8], f[9]);
+    if (f[0] == 3) printf(" %zu %zu %zu %zu", f[5], f[6], f[7], f[8]);
     putchar('\n');
 }
 

@@ -97,25 +97,6 @@ right "status $status, not 2" [ "$status" -eq 2 ]
 in_words "rovinuset: record: refused, number 10: page measure not allowed"
 whole printed
 
-# ---- numbers cut short: the table says what was sent and what was used, and nothing but a number of the job's bytes; so does the table of kinds.
-# told_of JOB WORDS..: of this job (a format of printf) the last cells of the table say just these.
-told_of() {
-  printf "$1" >cut.pcl
-  call record 640 800 cut.pcl -o cut.html
-  said="record, a job of ${1:0:60}"
-  right "status $status, not 1" [ "$status" -eq 1 ]
-  sed -n 's/^<tr id="finding-.*<td data-label="What was done">\(.*\)<\/td><\/tr>$/\1/p' cut.html >given
-  right "the table says: $(cat given)" cmp -s given <(printf '%s: the command was carried out with it.\n' "${@:2}")
-}
-thousand=$(printf '1234567890%.0s' {1..100})
-told_of '\33&a40000C\33&a-40000c+99999H\33*p32767.5x32767.0001Y' "40000 was sent, 32767 was used" "-40000 was sent, -32767 was used" \
-  "+99999 was sent, +32767 was used" "32767.5 was sent, 32767 was used" "32767.0001 was sent, 32767 was used"
-told_of "\\33&a12345678901234567890c${thousand}C" "12345678901234567890 was sent, 32767 was used" "123456789012345678901234… (1,000 bytes) was sent, 32767 was used"
-told_of "\\33*b40000W$(printf '%032767d' 0)\\33&p40000X$(printf '%032767d' 0)<script>" "40000 was sent, 32767 was used" "40000 was sent, 32767 was used"
-tells 1 "finding 8, number cut short: 2, the first at place 0" "32,775 text bytes moved the cursor and were not drawn" "1 page, 2 findings, $(tail -n 1 printed | cut -d ' ' -f 5) dots: cut.html"
-right "another verdict: $(grep verdict cut.html)" grep -qF '>This job has 2 findings: 2 numbers cut short. Numbers over 32,767 in size were lowered to that size and used.<' cut.html
-right "the table of kinds has another row" grep -qF '<td data-label="Number">8</td><td data-label="Finding">number cut short</td><td data-label="Count">2</td><td data-label="What is done">The number'"'"'s size was lowered to 32,767, and the command was carried out with it.</td>' cut.html
-
 # ---- papers
 while read -r paper said_so; do
   call record $paper clean.pcl -o record.html

@@ -45,7 +45,6 @@ addEventListener('load', () => {
     pictures: all('img').map(one => [one.complete, one.naturalWidth, one.naturalHeight]),
     seen: all('img').filter(one => box(one).width > 0).map(one => [one.className, Math.round(box(one).width), Math.round(box(one).height)]),
     rows: all('#list tbody tr').map(one => one.id),
-    done: all('#list tbody tr').map(one => one.cells[5].innerText),
     places: all('#list tbody tr').map(one => [one.cells[3].innerText, one.cells[3].querySelector('a')?.getAttribute('href') ?? null]),
     kinds: all('#kinds tbody tr').map(one => Number(one.cells[2].innerText.replace(/[^0-9]/g, ''))),
     marks: all('.mark').map(one => {
@@ -165,8 +164,7 @@ def damaged_curve(records):
         right("the picture that is seen, dot for dot", [["narrow", 319, 413] if width == 400 else ["fit", 638, 826]], facts["seen"])
         right("as many rows as findings", [f"finding-{number}" for number in range(1, 10)], facts["rows"])
         right("links: four to the parts, three of the page, a mark and a line for each finding", 4 + 3 + 9 + 9, facts["links"])
-        right("counts by number", [0, 0, 0, 0, 0, 0, 9, 0], facts["kinds"])
-        right("what was done", ["A blank row was drawn in its place."] * 9, facts["done"])
+        right("counts by number", [0, 0, 0, 0, 0, 0, 9], facts["kinds"])
         names = [f"page-1-row-{row}" for row in rows]
         right("marks and what they lead to", [[name, f"#finding-{n}"] for n, name in enumerate(names, 1)], [one[1:3] for one in facts["marks"]])
         right("links back", [f"#{name}" for name in names], [leads for _, leads in facts["places"]])
@@ -224,58 +222,6 @@ def rows_elsewhere(records):
     where += ["page 2, dot row 450, 38.1 mm from the top", "page 2, below the page's foot"]
     records.checks.right("elsewhere: rows", where, said)
     by_second(records, "elsewhere", job, records.shown("elsewhere", text, 400))
-
-
-def numbers_cut_short(records):
-    """Of each number cut short the table says what was sent and what was used, at both widths, however long the number is."""
-    right, digits, zeros = records.checks.right, b"1234567890", bytes(32767)
-    said = {
-        b"\x1b&a40000C": "40000 was sent, 32767 was used",
-        b"\x1b&a-40000C": "-40000 was sent, -32767 was used",
-        b"\x1b&a+99999H": "+99999 was sent, +32767 was used",
-        b"\x1b*p32767.5X": "32767.5 was sent, 32767 was used",
-        b"\x1b*p32767.0001Y": "32767.0001 was sent, 32767 was used",
-        b"\x1b&a" + digits * 2 + b"C": "12345678901234567890 was sent, 32767 was used",
-        b"\x1b&a" + digits * 100 + b"C": "123456789012345678901234… (1,000 bytes) was sent, 32767 was used",
-        b"\x1b*p32767x": None,
-        b"70000y": "70000 was sent, 32767 was used",  # in the open sequence
-        b"-80000X": "-80000 was sent, -32767 was used",
-        b"\x1b*b40000W" + zeros: "40000 was sent, 32767 was used",
-        b"\x1b&p50000X" + zeros: "50000 was sent, 32767 was used",
-        b"\f": None,
-    }
-    job, done = b"".join(said), [f"{words}: the command was carried out with it." for words in said.values() if words]
-    text = records.make("cut.pcl", job, 1, "640", "800")
-    right("cut short: printed", "finding 8, number cut short: 11, the first at place 0", records.printed[0])
-    for width in WIDTHS:
-        facts = records.shown("cut short", text, width)
-        right("cut short: what was done", done, facts["done"])
-        right("cut short: counts by number", [0] * 7 + [11], facts["kinds"])
-        right("cut short: marks", [], facts["marks"])
-        by_second(records, "cut short", job, facts, 640, 800)
-
-
-def verdicts(records):
-    """What the record says at its head of what was blank, what was lowered and what was left out: of each of them alone, and of all together."""
-    right, row, cut, other = records.checks.right, b"\x1b*b2m1W\x05", b"\x1b&a40000C", b"\x1b&f1S"
-    blank, blanks = " The damaged row is blank on the page.", " The damaged rows are blank on the page."
-    one, more = (f" {of} over 32,767 in size {was} lowered to that size and used." for of, was in (("A number", "was"), ("Numbers", "were")))
-    left, left_too = (f" What has {a} finding was left out, and nothing was put in its place." for a in ("a", "another"))
-    rows, pops = ("1 damaged row", "2 damaged rows"), ("1 push when full or pop when empty", "2 pushes when full or pops when empty")
-    for name, job, said in (
-        ("8", cut, "1 finding: 1 number cut short." + one),
-        ("8, 8", cut * 2, "2 findings: 2 numbers cut short." + more),
-        ("7", row, f"1 finding: {rows[0]}." + blank),
-        ("7, 8", row + cut, f"2 findings: {rows[0]}, 1 number cut short." + blank + one),
-        ("8, 8, 7, 7", (cut + row) * 2, f"4 findings: {rows[1]}, 2 numbers cut short." + blanks + more),
-        ("5", other, f"1 finding: {pops[0]}." + left),
-        ("5, 5, 8", other * 2 + cut, f"3 findings: {pops[1]}, 1 number cut short." + one + left_too),
-        ("5, 8, 8", other + cut * 2, f"3 findings: 2 numbers cut short, {pops[0]}." + more + left_too),
-        ("5, 7", other + row, f"2 findings: {rows[0]}, {pops[0]}." + blank + left_too),
-        ("5, 7, 8", other + row + cut, f"3 findings: {rows[0]}, {pops[0]}, 1 number cut short." + blank + one + left_too),
-    ):
-        text = records.make("verdict.pcl", job + b"\f", 1, "640", "800")
-        right(f"verdict on {name}", [f"This job has {said}"], re.findall(r'<p class="verdict found">(.*?)</p>', text))
 
 
 def flat_curve(records):
@@ -368,7 +314,7 @@ def many_rows(records):
         by_second(records, "rows", page * 45, facts, 640, 800)
         right("rows: the dot rows from 187 on and the foot of each page", 40 * (800 - 187 + 1), len(facts["marks"]))
         right("rows: in the table", 2000 + 1, len(facts["rows"]))
-        right("rows: counts", [45, 0, 45 * 766, 0], facts["kinds"][4:])
+        right("rows: counts", [45, 0, 45 * 766], facts["kinds"][4:])
         right("rows: said", True, f"{found - 2001:,} of {found:,} findings are not in this list." in facts["text"])
         right("rows: nothing is said to be left out of the margins", False, "in the margins" in facts["text"])
 
@@ -404,8 +350,7 @@ def refused_and_named(records):
 
 def shown(browser, command, second, folder):
     records = Records(browser, command, second, folder)
-    each_kind = damaged_curve, rows_elsewhere, numbers_cut_short, verdicts, flat_curve, end_states, notices, refused_and_named
-    for each in (*each_kind, many_findings, many_pages, many_rows, all_of_it):
+    for each in (damaged_curve, rows_elsewhere, flat_curve, end_states, notices, many_findings, many_pages, many_rows, all_of_it, refused_and_named):
         each(records)
     print(f"record: {records.checks.done} checks in the browser, {records.checks.failed} failed")
     return 1 if records.checks.failed else 0

@@ -4,7 +4,7 @@
  * memory, measure and all. Where a sequence is open, parking must be refused by 16, and the job goes on without a cut. At each stop both must have the
  * same finding, place, count of items and state, and the same page where one ended or is used. The end is a stop too. After MANY items of a stream a
  * cut comes only every SELDOM items and at each stop. A line for each stream that differs, then the counts: streams, items, parkings, refusals 16,
- * stops by finding 8, streams that differ. With -DPLAIN the plain C of bench/ stands in for the proved archive. */
+ * streams that differ. With -DPLAIN the plain C of bench/ stands in for the proved archive. */
 #include "cases.h"
 
 enum { MOST_PAGE = 4080000, MANY = 5000, SELDOM = 97 };
@@ -19,7 +19,7 @@ struct job {
 static struct lent states[2], text; /* the second job's state is read back into the other of two */
 static struct lent once_state;
 static struct job once, cut;
-static size_t wanted, streams, items, parkings, refusals, cut_short, differ;
+static size_t wanted, streams, items, parkings, refusals, differ;
 
 /* ---- a power cut */
 static void wipe(struct lent *l) { memset(l->bytes, JUNK, l->n); }
@@ -111,7 +111,6 @@ static void run_both(size_t wide, size_t high) {
         compare(to_stop(before));
         before += once.done;
         more = once.finding || once.ended;
-        cut_short += once.finding == ROV_FINDING_CUT_SHORT;
         if (!amiss) power_cut();
     } while (more && !amiss);
     if (!amiss && cut.state->bytes[ROV_FIRST]) blame("a sequence is open behind the stream's end");
@@ -150,7 +149,6 @@ int main(int words, char **word) {
     make(&once.page, MOST_PAGE);
     make(&cut.page, MOST_PAGE);
     if (each_line(word[1], one_case)) return 1;
-    printf("%zu streams, %zu items, %zu parkings, %zu refusals 16, %zu findings 8, %zu differences\n", streams, items, parkings, refusals, cut_short,
-           differ);
+    printf("%zu streams, %zu items, %zu parkings, %zu refusals 16, %zu differences\n", streams, items, parkings, refusals, differ);
     return fflush(stdout) || differ || streams < wanted ? 1 : 0;
 }

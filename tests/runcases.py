@@ -54,12 +54,6 @@ LIMITS = {
     (b"&", b"l", b"D"): tuple(b"%d" % number for number in (*range(-1, 18), 23, 24, 25, 47, 48, 49)),
     (b"*", b"t", b"R"): (b"74", b"75", b"76", b"99", b"100", b"101", b"149", b"151", b"299", b"300", b"301", b"600", b"-75"),
 }
-# What stands before a command so that it may be carried out with a great number: columns of no width, raster started.
-MOMENTS = {(b"&", b"a", b"L"): b"\x1b&k0H", (b"*", b"b", b"Y"): b"\x1b*r0A"}
-# Those that are carried out with it: positions, columns, and in their moment those above.
-GREAT = ((b"&", b"a", b"C"), (b"&", b"a", b"H"), (b"*", b"p", b"X"), (b"&", b"a", b"V"), (b"*", b"p", b"Y"), (b"&", b"a", b"R"), (b"&", b"a", b"M"),
-         (b"&", b"k", b"H"), *MOMENTS)
-LONGEST_PAYLOAD = 32767
 PAYLOADS = {(b"&", b"p", b"X"), (b"*", b"b", b"W")}
 VALUED = [command for command in leafcases.CARRIED if command not in PAYLOADS]
 BY_PAIR = {}
@@ -121,10 +115,8 @@ class Runs(leafcases.Cases):
 
     def number_for(self, command):
         share = self.share()
-        if share < 0.88:
-            return self.one_of(USUAL.get(command, PLACES))
         if share < 0.9:
-            return self.great()
+            return self.one_of(USUAL.get(command, PLACES))
         if share < 0.95:
             return self.one_of(WRONG)
         return b"%d" % self.below(50) if share < 0.97 else self.value()
@@ -148,18 +140,6 @@ class Runs(leafcases.Cases):
             first, group, capital = command
             return ESC + first + group + self.one_of(LIMITS.get(command, WHOLE)) + capital
         return self.without_group() if share < 0.8 else ESC + bytes((self.byte(),))
-
-    def great_command(self):
-        """A command with a great number, mostly one that may be carried out with it, and at such a moment. A payload is short."""
-        command = self.one_of(GREAT if self.share() < 0.7 else leafcases.CARRIED)
-        first, group, capital = command
-        moment = MOMENTS.get(command, b"") if self.share() < 0.8 else b""
-        return moment + ESC + first + group + self.great() + self.letter(capital, 0.2)
-
-    def great_top(self):
-        """A page, and a top margin by a great number: with lines of one unit the page is high enough from 1,366 rows on."""
-        page = 8 * self.between(1, 3), self.one_of((1365, 1366, self.between(1366, 6800)))
-        return page, ESC + b"&l.01" + self.one_of((b"c", b"C\x1b&l")) + self.great() + self.letter(b"E", 0.2)
 
     def stacked(self):
         return ESC + self.one_of((b"&f0S", b"&f0S", b"&f1S", b"&f0s1S", b"&f1s0S", b"&f0s0S", b"&fs1s1S", b"&f2S"))
@@ -204,24 +184,6 @@ class Runs(leafcases.Cases):
             payload = self.bytes(self.below(20))
         return ESC + b"&p" + self.count(len(payload)) + self.letter(b"X", 0.2) + payload
 
-    def long_payload(self):
-        """A stream of a payload about the longest, by its length and in words: there in full or a little short. The command comes again in its payload."""
-        share = self.share()
-        method = self.one_of((0, 1, 2, 2, 2, 3, 3, 3))
-        if share < 0.25:
-            command, capital, payload = b"&p", b"X", self.text()
-        elif share < 0.35:
-            command, capital, payload = *self.one_of(((b"*b", b"V"), (b"(s", b"W"), (b"&p", b"W"))), self.text()
-        else:
-            # By methods 2 and 3 many small parts, so that the end is as often behind a whole one as in one; by method 1 it is in one, as the length is odd.
-            small = b"\x80" if method == 2 else b"\0"
-            command, capital, payload = b"*b%dm" % method, b"W", self.payload(method, 12) + small * self.between(60, 300)
-        number = self.great()
-        head = ESC + command + (number.lstrip(b"-") if self.share() < 0.9 else number) + self.letter(capital, 0.2)
-        more = self.one_of((0, 0, 0, 0, 1, self.between(2, 400), self.between(2, 400), -1, -self.between(2, 40)))
-        length = len(head) + LONGEST_PAYLOAD + more
-        return length, f"x{length}:{(head + payload).hex()}"
-
     def without_group(self):
         """Only a capital may end it; and beside a group's range there is none."""
         first = bytes((self.between(33, 47),))
@@ -254,7 +216,7 @@ class Runs(leafcases.Cases):
             piece = piece[:place] + piece[max(0, place - self.below(20)):]
         return piece
 
-    MAKERS = ([text] * 18 + [code] * 18 + [two_bytes] * 5 + [command] * 30 + [great_command] * 2 + [stacked] * 3 + [row] * 16
+    MAKERS = ([text] * 18 + [code] * 18 + [two_bytes] * 5 + [command] * 30 + [stacked] * 3 + [row] * 16
               + [transparent] * 5 + [not_carried] + [from_corpus] * 4)
 
     def new_piece(self):
@@ -273,14 +235,14 @@ class Runs(leafcases.Cases):
         share = self.share()
         if share < 0.06:
             return self.one_of((b"", self.sequence(), self.piece()))
-        if share < 0.29:
+        if share < 0.26:
             # First, so that it is the first finding of the run.
             return self.one_of((self.not_carried, self.transparent, self.stacked, self.row, self.edge, self.edge,
-                                self.edge, self.great_command))() + self.pieces(2)
-        if share < 0.37:
+                                self.edge))() + self.pieces(2)
+        if share < 0.34:
             stream = self.from_corpus() + self.pieces(2)
         else:
-            stream = self.pieces(4 if share < 0.67 else 12)
+            stream = self.pieces(4 if share < 0.65 else 12)
         if stream and self.share() < 0.12:
             stream = stream[:-self.between(1, min(len(stream), 6))]
         return stream
@@ -475,12 +437,11 @@ class Runs(leafcases.Cases):
         """What is handed to a run or to a step, before its own numbers, and the stream. A state afresh is written by `afresh`; what
         stands from the place on is mostly by `body`."""
         faults = self.faults(FAULTS)
-        great_top = self.great_top() if self.share() < GREAT_TOPS else None
-        wide, high = great_top[0] if great_top else self.measure()
+        wide, high = self.measure()
         state = None
         if 13 in faults or self.share() < 0.6:
             state = self.sound_state(wide, high)
-        before, body = self.start(), great_top[1] if great_top else body()
+        before, body = self.start(), body()
         if state and state[14] and self.share() < 0.85:
             body = self.continued(state[14]) + body
         stream = before + body
@@ -493,11 +454,6 @@ class Runs(leafcases.Cases):
             length = LONGEST
             text = self.long_stream(length)
             place = self.one_of((0, LONGEST, LONGEST - 1, LONGEST - self.below(3000)))
-        elif self.share() < LONG_PAYLOADS:
-            length, text = self.long_payload()
-            place = 0
-            if state:
-                state[14] = None
         elif self.share() < 0.06:
             place = self.one_of((length, self.between(0, length)))
         if 14 in faults:
@@ -627,11 +583,7 @@ class Runs(leafcases.Cases):
         faults = self.faults(ROOM_FAULTS)
         wide, high = self.measure()
         stream = self.translated()
-        if self.share() < GREAT_TOPS:
-            (wide, high), stream = self.great_top()
         length, text = len(stream), stream.hex() or "-"
-        if self.share() < LONG_PAYLOADS:
-            length, text = self.long_payload()
         room = self.room(length, wide)
         if 12 in faults:
             text = self.long_stream(LONGEST + self.one_of((1, 1, 2, 4000)))
@@ -646,7 +598,6 @@ UNSOUND = ("x", "y", "margins", "margins", "T", "HMI", "VMI", "bytes", "bytes", 
            "stack", "stack", "seed")
 FAULTS = (10, 10, 10, 11, 11, 11, 12, 13, 13, 13, 13, 13, 14, 14, 14)
 ROOM_FAULTS = (10, 10, 10, 12, 15, 15, 15)
-LONG_PAYLOADS, GREAT_TOPS = 0.005, 0.003  # of the runs, steps and translations
 EACH_LONG = 1250  # of so many translations one is about the longest
 # Pieces, and by how much their plain stream is longer, on a page of 48 dots and more.
 GROWING = ((b"\x1b&a1c1C", 3), (b"\x1b*p+1x+1Y", 3), (b"\x1b&a.5c.5H", 5), (b"\x1b*b2m2W\xfb\xff", 2), (b"\x1b&f0s1S", 3))

@@ -9,7 +9,7 @@ enum { MOST_ROOM = 8000000, ENOUGH = 256, ROOM_FILL = '.', OTHER_FILL = '#' }; /
 
 enum { NO_LINE, PAGE_ENDED = FINDINGS, OVER_USED, OVER_UNUSED, ROOM_SHORT, NO_ROOM, REFUSED }; /* the findings are between the first two */
 static const char *const outcomes[] = {
-    "no line", "finding 1", "finding 2", "finding 3", "finding 4", "finding 5", "finding 6", "finding 7", "finding 8", "page ended",
+    "no line", "finding 1", "finding 2", "finding 3", "finding 4", "finding 5", "finding 6", "finding 7", "page ended",
     "over, page used", "over, page unused", "room too short", "lines and no room", "refused 10", "refused 11", "refused 12", "refused 13",
     "refused 14"};
 

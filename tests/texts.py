@@ -6,7 +6,6 @@ import re
 import subprocess
 
 BROKEN = (1, 2)  # findings of a piece that is no whole item: it closes its sequence
-CARRIED_OUT = (0, 8)  # no finding, or a number cut short: &p#X takes and moves by what the lowered number counts
 # The head of a sequence, which a command in an open one has not; its value; the letter that ends it, a capital where the sequence ends too.
 COMMAND = re.compile(rb"(?:\x1b([!-/])([`-~])?)?[^@-^`-~]*([@-^`-~])", re.DOTALL)
 
@@ -39,7 +38,7 @@ def text_bytes(job, lines):
         elif sequence is not None or item[1] < 48:  # not one of two bytes
             command = COMMAND.match(item)
             head, letter = sequence or command.groups()[:2], command[3]
-            if (head, letter.upper()) == ((b"&", b"p"), b"X") and finding in CARRIED_OUT:
+            if (head, letter.upper(), finding) == ((b"&", b"p"), b"X", 0):
                 count += sum(byte != 32 for byte in item[command.end() :])
             sequence = head if b"`" <= letter else None
     return count

@@ -13,8 +13,8 @@ enum { /* behind the findings of the streams */
 };
 static const char *const outcomes[] = {
     "finding 1 dropped", "finding 2 dropped", "finding 3 dropped", "finding 4 dropped", "finding 5 dropped", "finding 6 dropped",
-    "finding 7 made a row of zeros", "finding 8 written as 32767", "plain stream", "empty plain stream", "shorter than the stream",
-    "longer than the stream", "of 1,048,576 bytes", "page ended", "last page used", "refused 10", "refused 12", "refused 15, room too short",
+    "finding 7 made a row of zeros", "plain stream", "empty plain stream", "shorter than the stream", "longer than the stream",
+    "of 1,048,576 bytes", "page ended", "last page used", "refused 10", "refused 12", "refused 15, room too short",
     "refused 15, longer than 1,048,576 bytes", "10 before 12", "10 before 15", "12 before 15"};
 
 struct case_line {

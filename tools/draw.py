@@ -18,7 +18,6 @@ import findings
 import pages
 import png
 import progress
-import sent
 import stopping
 import telling
 
@@ -234,8 +233,8 @@ class Drawing:
         yield ""
         yield f"Findings: {found}"
         for index, (place, number) in enumerate(zip(lines.places, lines.numbers)):
-            done = sent.done(call.job, place, number)
-            yield f"place {place}, {self.where(index)}: finding {number}, {findings.FINDINGS[number][0]}. {done}"
+            said, _, done = findings.FINDINGS[number]
+            yield f"place {place}, {self.where(index)}: finding {number}, {said}. {done}"
         yield ""
         yield f"End: x {x}, y {y} (1/7200 inch), stack depth {depth}, findings {found}"
         yield ""

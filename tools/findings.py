@@ -28,11 +28,6 @@ FINDINGS = {
         "The command was left out.",
     ),
     7: ("damaged row", ("damaged row", "damaged rows"), "A blank row was drawn in its place."),
-    8: (
-        "number cut short",
-        ("number cut short", "numbers cut short"),
-        "The number's size was lowered to 32,767, and the command was carried out with it.",
-    ),
 }
 
 REFUSALS = {
@@ -54,7 +49,7 @@ UNPARKING = {
     17: "text not of the form of a parked text",
     18: "form right, but page measure not allowed or state not sound",
 }
-DAMAGED_ROW, CUT_SHORT = 7, 8
+DAMAGED_ROW = 7
 
 
 def counted(count, one, more, form=""):

@@ -6,9 +6,8 @@ import os
 from html import escape
 
 import findings
-import sent
 import words
-from findings import CUT_SHORT, DAMAGED_ROW, FINDINGS, REFUSALS
+from findings import DAMAGED_ROW, FINDINGS, REFUSALS
 
 BYTES_SHOWN = 16
 UNITS_A_DOT = 24
@@ -41,19 +40,13 @@ def verdict(lines, job):
     counts = dict(sorted(lines.counts().items(), key=lambda kind: (kind[0] != DAMAGED_ROW, -kind[1])))  # damaged rows first
     kinds = ", ".join(counted(count, *FINDINGS[number][1]) for number, count in counts.items())
     said = f"This job has {counted(len(lines.places), 'finding', 'findings')}: {kinds}."
-    return " ".join((said, *outcomes(counts, len(lines.dots))))
-
-
-def outcomes(counts, pages):
-    """What became of it: a damaged row is blank, a number cut short was used all the same, and all else was left out."""
-    damaged, cut = counts.get(DAMAGED_ROW, 0), counts.get(CUT_SHORT, 0)
+    damaged = counts.pop(DAMAGED_ROW, 0)
+    on_page = "on the page" if len(lines.dots) == 1 else "on its page" if damaged == 1 else "on their pages"
     if damaged:
-        on_page = "on the page" if pages == 1 else "on its page" if damaged == 1 else "on their pages"
-        yield f"The damaged {'row is' if damaged == 1 else 'rows are'} blank {on_page}."
-    if cut:
-        yield f"{'A number' if cut == 1 else 'Numbers'} over 32,767 in size {'was' if cut == 1 else 'were'} lowered to that size and used."
-    if counts.keys() - {DAMAGED_ROW, CUT_SHORT}:
-        yield f"What has {'another' if damaged or cut else 'a'} finding was left out, and nothing was put in its place."
+        said += f" The damaged {'row is' if damaged == 1 else 'rows are'} blank {on_page}."
+    if counts:
+        said += f" What has {'another' if damaged else 'a'} finding was left out, and nothing was put in its place."
+    return said
 
 
 def notices(facts):
@@ -248,13 +241,14 @@ def where(facts, index):
 
 def finding(facts, index):
     place, number = facts.lines.places[index], facts.lines.numbers[index]
+    name, _, done = FINDINGS[number]
     cells = (
         ("No.", f"{index + 1:,}"),
-        ("Finding", f"{number}, {FINDINGS[number][0]}"),
+        ("Finding", f"{number}, {name}"),
         ("Place", f"{place:,}"),
         ("On the page", where(facts, index)),
         ("Bytes from there on", bytes_at(facts.job, place)),
-        ("What was done", sent.done(facts.job, place, number)),
+        ("What was done", done),
     )
     inside = "".join(f'<td data-label="{label}">{text}</td>' for label, text in cells)
     return f'<tr id="finding-{index + 1}">{inside}</tr>\n'

@@ -6,7 +6,7 @@ use crate::reader::{Broken, Item, Piece, Sequence};
 use crate::rows::decode_row;
 use crate::state::{Position, State};
 
-/// The paper's findings 1 to 7, and the 8 of the request that added it.
+/// The paper's findings 1 to 7.
 #[derive(Clone, Copy, PartialEq, Eq, Debug)]
 pub enum Finding {
     StreamEnds,
@@ -16,12 +16,10 @@ pub enum Finding {
     PushFullPopEmpty,
     NotNow,
     DamagedRow,
-    /// The number that the command used was lowered. The command is carried out.
-    NumberLowered,
 }
 
 impl Finding {
-    /// The number in the paper's table, or in the request that added it.
+    /// The number in the paper's table.
     pub fn number(self) -> u8 {
         match self {
             Finding::StreamEnds => 1,
@@ -31,7 +29,6 @@ impl Finding {
             Finding::PushFullPopEmpty => 5,
             Finding::NotNow => 6,
             Finding::DamagedRow => 7,
-            Finding::NumberLowered => 8,
         }
     }
 }
@@ -115,12 +112,6 @@ impl Command {
         };
         Some(command)
     }
-
-    /// Whether the command uses its number, as a value or as a count: all do but
-    /// `*rB` and `*rC`, which ignore it.
-    pub fn uses_number(self) -> bool {
-        !matches!(self, Command::EndRaster | Command::EndRasterAndReset)
-    }
 }
 
 /// Where a row is to be painted: the row itself is the seed row then.
@@ -151,14 +142,6 @@ impl Effect {
         Effect {
             page_ended,
             ..Effect::default()
-        }
-    }
-
-    /// The same effect with finding 8, "given only if no other is".
-    fn with_number_lowered(self) -> Effect {
-        Effect {
-            finding: self.finding.or(Some(Finding::NumberLowered)),
-            ..self
         }
     }
 }
@@ -356,21 +339,6 @@ fn do_command(
         }
     };
     let value = &sequence.value;
-    let effect = carry_out(measure, state, command, value, payload)?;
-    if value.lowered && command.uses_number() {
-        return Ok(effect.with_number_lowered());
-    }
-    Ok(effect)
-}
-
-/// Does what the command says with the number as it was read, lowered or not.
-fn carry_out(
-    measure: &Measure,
-    state: &mut State,
-    command: Command,
-    value: &Value,
-    payload: &[u8],
-) -> Result<Effect, Finding> {
     match command {
         Command::ColumnPosition => move_x(measure, state, value, i64::from(state.hmi)),
         Command::HorizontalDecipoints => move_x(measure, state, value, DECIPOINT),

@@ -55,13 +55,7 @@ pub fn answer_leaf(line: &str) -> Option<String> {
             let [sign, size] = fields(rest)?;
             let sign = sign_numbered(sign)?;
             let size = i64::from(decimal_32(size)?);
-            // Not read from digits, so nothing lowered it.
-            let lowered = false;
-            Some(write_position(&Value {
-                sign,
-                size,
-                lowered,
-            }))
+            Some(write_position(&Value { sign, size }))
         }
         _ => None,
     }
@@ -129,10 +123,8 @@ fn sign_number(sign: Sign) -> u8 {
 // ---- V: a value
 
 fn answer_value(at: usize, stream: &[u8]) -> String {
-    let (value, length) = read_value(stream.get(at..).unwrap_or(&[]));
-    let (sign, size) = (sign_number(value.sign), value.size);
-    let (next, lowered) = (at.saturating_add(length), u8::from(value.lowered));
-    format!("{sign} {size} {next} {lowered}")
+    let (Value { sign, size }, length) = read_value(stream.get(at..).unwrap_or(&[]));
+    format!("{} {size} {}", sign_number(sign), at.saturating_add(length))
 }
 
 // ---- I: an item
@@ -164,15 +156,14 @@ fn kind_and_detail(item: &Item) -> (u8, String) {
 }
 
 /// The value as it was sent, not as it is used; the payload's places, both the
-/// next item's if there is none; whether the number read was lowered, also where
-/// no command uses it.
+/// next item's if there is none.
 fn command_detail(sequence: &Sequence) -> String {
     let Sequence { value, payload, .. } = sequence;
-    let (from, to, lowered) = (payload.start, payload.end, u8::from(value.lowered));
+    let (from, to) = (payload.start, payload.end);
     match Command::named(sequence.first, sequence.group, sequence.ending) {
-        None => format!("0 0 0 {from} {to} {lowered}"),
+        None => format!("0 0 0 {from} {to}"),
         Some(command) => format!(
-            "{} {} {} {from} {to} {lowered}",
+            "{} {} {} {from} {to}",
             command_number(command),
             sign_number(value.sign),
             value.size

@@ -19,9 +19,6 @@ pub struct Value {
     pub sign: Sign,
     /// The size in ten-thousandths, without sign, at most [`LARGEST`].
     pub size: i64,
-    /// Whether the size was larger when it had been kept to four places:
-    /// "Numbers cut short must show."
-    pub lowered: bool,
 }
 
 impl Value {
@@ -29,7 +26,6 @@ impl Value {
     pub const NONE: Value = Value {
         sign: Sign::None,
         size: 0,
-        lowered: false,
     };
 
     /// "A sign makes it relative, also before 0."
@@ -83,15 +79,9 @@ pub fn read_value(bytes: &[u8]) -> (Value, usize) {
             place += 1;
         }
     }
-    // The four places come first, the comparison of size after them: digits
-    // that were dropped lower nothing.
-    let kept = whole * ONE + fraction;
-    let value = Value {
-        sign,
-        size: kept.min(LARGEST),
-        lowered: kept > LARGEST,
-    };
-    (value, place)
+    // The four places come first, the comparison of size after them.
+    let size = (whole * ONE + fraction).min(LARGEST);
+    (Value { sign, size }, place)
 }
 
 fn digit_at(bytes: &[u8], place: usize) -> Option<i64> {

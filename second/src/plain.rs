@@ -47,13 +47,9 @@ fn plain_stream(measure: &Measure, stream: &[u8], longest: usize) -> Option<Vec<
     Some(plain)
 }
 
-/// "Items with findings 1 to 6 [..] are dropped": a damaged row is not, nor is a
-/// command whose number was lowered. It is written with the lowered number.
+/// "Items with findings 1 to 6 [..] are dropped": a damaged row is not.
 fn is_kept(finding: Option<Finding>) -> bool {
-    matches!(
-        finding,
-        None | Some(Finding::DamagedRow | Finding::NumberLowered)
-    )
+    matches!(finding, None | Some(Finding::DamagedRow))
 }
 
 fn write_item(plain: &mut Vec<u8>, stream: &[u8], item: &Item, row: &[u8]) {

@@ -196,7 +196,7 @@ fn cases_from_standard_input() {
 fn leaves_from_standard_input_and_from_a_file() {
     let input = b"V 0 2D30\nN 2 12500\nV 0\nN 0 0\n";
     let (status, out, error) = call_for_text(&["leaves", "-"], input);
-    assert_eq!((status, out.as_str()), (1, "2 0 2 0\n-1.25\n"));
+    assert_eq!((status, out.as_str()), (1, "2 0 2\n-1.25\n"));
     assert_eq!(error, "second: line 3 is not of the form of a case\n");
     assert_eq!(call(&["leaves", "-"], b""), (0, vec![], String::new()));
     // Bytes that are no text.

@@ -29,10 +29,7 @@ fn example_04_dots() {
 
 #[test]
 fn example_05_right_of_the_page() {
-    let end = read(b"\x1b&a99999H");
-    assert_eq!(end.cursor(), (15_360, 4_500));
-    // The number is lowered, so it has finding 8 now.
-    assert_eq!(end.items, [(0, 9, 8)]);
+    assert_eq!(read(b"\x1b&a99999H").cursor(), (15_360, 4_500));
 }
 
 #[test]

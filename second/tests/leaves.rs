@@ -33,26 +33,26 @@ fn value(bytes: &[u8]) -> String {
 #[test]
 fn values_as_lines() {
     check(&[
-        ("V 0 -", "0 0 0 0"),
-        ("V 0 35", "0 50000 1 0"),
-        ("V 0 2B35", "1 50000 2 0"),
-        ("V 0 2d35", "2 50000 2 0"),
-        ("V 0 2D30", "2 0 2 0"),
-        ("V 0 2B30", "1 0 2 0"),
-        ("V 0 2B", "1 0 1 0"),
-        ("V 0 2D", "2 0 1 0"),
-        ("V 0 2E", "0 0 1 0"),
-        ("V 0 2D2E", "2 0 2 0"),
-        ("V 0 352E", "0 50000 2 0"),
-        ("V 0 2E35", "0 5000 2 0"),
+        ("V 0 -", "0 0 0"),
+        ("V 0 35", "0 50000 1"),
+        ("V 0 2B35", "1 50000 2"),
+        ("V 0 2d35", "2 50000 2"),
+        ("V 0 2D30", "2 0 2"),
+        ("V 0 2B30", "1 0 2"),
+        ("V 0 2B", "1 0 1"),
+        ("V 0 2D", "2 0 1"),
+        ("V 0 2E", "0 0 1"),
+        ("V 0 2D2E", "2 0 2"),
+        ("V 0 352E", "0 50000 2"),
+        ("V 0 2E35", "0 5000 2"),
         // A letter, ESC, and the bytes beside the digits end it.
-        ("V 0 41", "0 0 0 0"),
-        ("V 0 1B35", "0 0 0 0"),
-        ("V 0 2F31", "0 0 0 0"),
-        ("V 0 313A", "0 10000 1 0"),
-        ("V 0 31B1", "0 10000 1 0"),
-        ("V 0 312031", "0 10000 1 0"),
-        ("V 000 0035", "0 0 0 0"),
+        ("V 0 41", "0 0 0"),
+        ("V 0 1B35", "0 0 0"),
+        ("V 0 2F31", "0 0 0"),
+        ("V 0 313A", "0 10000 1"),
+        ("V 0 31B1", "0 10000 1"),
+        ("V 0 312031", "0 10000 1"),
+        ("V 000 0035", "0 0 0"),
     ]);
 }
 
@@ -60,46 +60,45 @@ fn values_as_lines() {
 fn values_at_other_places() {
     check(&[
         // ESC & a - 5 . 2 5 C
-        ("V 3 1B26612D352E323543", "2 52500 8 0"),
-        ("V 4 1B26612D352E323543", "0 52500 8 0"),
-        ("V 5 1B26612D352E323543", "0 2500 8 0"),
-        ("V 8 1B26612D352E323543", "0 0 8 0"),
-        ("V 9 1B26612D352E323543", "0 0 9 0"),
-        ("V 1 3535", "0 50000 2 0"),
+        ("V 3 1B26612D352E323543", "2 52500 8"),
+        ("V 4 1B26612D352E323543", "0 52500 8"),
+        ("V 5 1B26612D352E323543", "0 2500 8"),
+        ("V 8 1B26612D352E323543", "0 0 8"),
+        ("V 9 1B26612D352E323543", "0 0 9"),
+        ("V 1 3535", "0 50000 2"),
         // The end, and beyond it.
-        ("V 1 35", "0 0 1 0"),
-        ("V 2 35", "0 0 2 0"),
-        ("V 1 -", "0 0 1 0"),
-        ("V 4294967295 35", "0 0 4294967295 0"),
+        ("V 1 35", "0 0 1"),
+        ("V 2 35", "0 0 2"),
+        ("V 1 -", "0 0 1"),
+        ("V 4294967295 35", "0 0 4294967295"),
     ]);
 }
 
 #[test]
 fn values_lowered_and_long() {
-    assert_eq!(value(b"32767"), "0 327670000 5 0");
-    assert_eq!(value(b"32768"), "0 327670000 5 1");
-    assert_eq!(value(b"32766.9999"), "0 327669999 10 0");
-    assert_eq!(value(b"32766.99999"), "0 327669999 11 0");
-    assert_eq!(value(b"32767.00009"), "0 327670000 11 0");
-    assert_eq!(value(b"32767.0001"), "0 327670000 10 1");
-    assert_eq!(value(b"32767.5W"), "0 327670000 7 1");
-    assert_eq!(value(b"-40000W"), "2 327670000 6 1");
-    assert_eq!(value(b"+18446744073709551616"), "1 327670000 21 1");
-    assert_eq!(value(b"4294967297"), "0 327670000 10 1");
-    assert_eq!(value(b"1.23456789C"), "0 12345 10 0");
-    assert_eq!(value(b"0.0001"), "0 1 6 0");
-    assert_eq!(value(b"-0.00009"), "2 0 8 0");
-    assert_eq!(value(b"1.2.3"), "0 12000 3 0");
-    assert_eq!(value(b"--1"), "2 0 1 0");
-    assert_eq!(value(b"+-1"), "1 0 1 0");
-    assert_eq!(value(b"1-1"), "0 10000 1 0");
-    assert_eq!(value(&[b'9'; 300]), "0 327670000 300 1");
+    assert_eq!(value(b"32767"), "0 327670000 5");
+    assert_eq!(value(b"32766.9999"), "0 327669999 10");
+    assert_eq!(value(b"32766.99999"), "0 327669999 11");
+    assert_eq!(value(b"32767.00009"), "0 327670000 11");
+    assert_eq!(value(b"32767.0001"), "0 327670000 10");
+    assert_eq!(value(b"32767.5W"), "0 327670000 7");
+    assert_eq!(value(b"-40000W"), "2 327670000 6");
+    assert_eq!(value(b"+18446744073709551616"), "1 327670000 21");
+    assert_eq!(value(b"4294967297"), "0 327670000 10");
+    assert_eq!(value(b"1.23456789C"), "0 12345 10");
+    assert_eq!(value(b"0.0001"), "0 1 6");
+    assert_eq!(value(b"-0.00009"), "2 0 8");
+    assert_eq!(value(b"1.2.3"), "0 12000 3");
+    assert_eq!(value(b"--1"), "2 0 1");
+    assert_eq!(value(b"+-1"), "1 0 1");
+    assert_eq!(value(b"1-1"), "0 10000 1");
+    assert_eq!(value(&[b'9'; 300]), "0 327670000 300");
     let zeros = "0".repeat(300);
-    assert_eq!(value(format!("{zeros}7").as_bytes()), "0 70000 301 0");
-    assert_eq!(value(format!("-.{zeros}7").as_bytes()), "2 0 303 0");
-    assert_eq!(value(format!("7.{zeros}").as_bytes()), "0 70000 302 0");
+    assert_eq!(value(format!("{zeros}7").as_bytes()), "0 70000 301");
+    assert_eq!(value(format!("-.{zeros}7").as_bytes()), "2 0 303");
+    assert_eq!(value(format!("7.{zeros}").as_bytes()), "0 70000 302");
     let threes = "3".repeat(300);
-    assert_eq!(value(format!("1.{threes}").as_bytes()), "0 13333 302 0");
+    assert_eq!(value(format!("1.{threes}").as_bytes()), "0 13333 302");
 }
 
 // ---- I
@@ -173,28 +172,28 @@ fn items_of_two_bytes() {
 #[test]
 fn items_of_each_command() {
     let commands: [(&[u8], &str); 22] = [
-        (b"\x1b&a2C", "3 5 0 0 1 0 20000 5 5 0"),
-        (b"\x1b&a2H", "3 5 0 0 2 0 20000 5 5 0"),
-        (b"\x1b*p2X", "3 5 0 0 3 0 20000 5 5 0"),
-        (b"\x1b&a2V", "3 5 0 0 4 0 20000 5 5 0"),
-        (b"\x1b*p2Y", "3 5 0 0 5 0 20000 5 5 0"),
-        (b"\x1b&a2R", "3 5 0 0 6 0 20000 5 5 0"),
-        (b"\x1b&a2L", "3 5 0 0 7 0 20000 5 5 0"),
-        (b"\x1b&a2M", "3 5 0 0 8 0 20000 5 5 0"),
-        (b"\x1b&l2E", "3 5 0 0 9 0 20000 5 5 0"),
-        (b"\x1b&l2C", "3 5 0 0 10 0 20000 5 5 0"),
-        (b"\x1b&l2D", "3 5 0 0 11 0 20000 5 5 0"),
-        (b"\x1b&k2H", "3 5 0 0 12 0 20000 5 5 0"),
-        (b"\x1b&k2G", "3 5 0 0 13 0 20000 5 5 0"),
-        (b"\x1b&f2S", "3 5 0 0 14 0 20000 5 5 0"),
-        (b"\x1b*t2R", "3 5 0 0 15 0 20000 5 5 0"),
-        (b"\x1b*r2A", "3 5 0 0 16 0 20000 5 5 0"),
-        (b"\x1b*r2B", "3 5 0 0 17 0 20000 5 5 0"),
-        (b"\x1b*r2C", "3 5 0 0 18 0 20000 5 5 0"),
-        (b"\x1b*b2Y", "3 5 0 0 19 0 20000 5 5 0"),
-        (b"\x1b*b2M", "3 5 0 0 20 0 20000 5 5 0"),
-        (b"\x1b&p2X\x1bE", "3 7 0 0 21 0 20000 5 7 0"),
-        (b"\x1b*b2W\x1bE", "3 7 0 0 22 0 20000 5 7 0"),
+        (b"\x1b&a2C", "3 5 0 0 1 0 20000 5 5"),
+        (b"\x1b&a2H", "3 5 0 0 2 0 20000 5 5"),
+        (b"\x1b*p2X", "3 5 0 0 3 0 20000 5 5"),
+        (b"\x1b&a2V", "3 5 0 0 4 0 20000 5 5"),
+        (b"\x1b*p2Y", "3 5 0 0 5 0 20000 5 5"),
+        (b"\x1b&a2R", "3 5 0 0 6 0 20000 5 5"),
+        (b"\x1b&a2L", "3 5 0 0 7 0 20000 5 5"),
+        (b"\x1b&a2M", "3 5 0 0 8 0 20000 5 5"),
+        (b"\x1b&l2E", "3 5 0 0 9 0 20000 5 5"),
+        (b"\x1b&l2C", "3 5 0 0 10 0 20000 5 5"),
+        (b"\x1b&l2D", "3 5 0 0 11 0 20000 5 5"),
+        (b"\x1b&k2H", "3 5 0 0 12 0 20000 5 5"),
+        (b"\x1b&k2G", "3 5 0 0 13 0 20000 5 5"),
+        (b"\x1b&f2S", "3 5 0 0 14 0 20000 5 5"),
+        (b"\x1b*t2R", "3 5 0 0 15 0 20000 5 5"),
+        (b"\x1b*r2A", "3 5 0 0 16 0 20000 5 5"),
+        (b"\x1b*r2B", "3 5 0 0 17 0 20000 5 5"),
+        (b"\x1b*r2C", "3 5 0 0 18 0 20000 5 5"),
+        (b"\x1b*b2Y", "3 5 0 0 19 0 20000 5 5"),
+        (b"\x1b*b2M", "3 5 0 0 20 0 20000 5 5"),
+        (b"\x1b&p2X\x1bE", "3 7 0 0 21 0 20000 5 7"),
+        (b"\x1b*b2W\x1bE", "3 7 0 0 22 0 20000 5 7"),
     ];
     for (number, (stream, expected)) in (1..).zip(commands) {
         assert_eq!(item(stream), expected, "{number}");
@@ -208,73 +207,51 @@ fn items_of_each_command() {
         let next = stream.len() - 3;
         assert_eq!(
             item_in(stream[1], stream[2], &stream[3..]),
-            format!("3 {next} 0 0 {number} 0 20000 2 {next} 0")
+            format!("3 {next} 0 0 {number} 0 20000 2 {next}")
         );
     }
 }
 
 #[test]
 fn the_value_of_an_item_is_as_it_was_sent() {
-    assert_eq!(item(b"\x1b&a+0C"), "3 6 0 0 1 1 0 6 6 0");
-    assert_eq!(item(b"\x1b&a-0C"), "3 6 0 0 1 2 0 6 6 0");
-    assert_eq!(item(b"\x1b&a-C"), "3 5 0 0 1 2 0 5 5 0");
-    assert_eq!(item(b"\x1b&aC"), "3 4 0 0 1 0 0 4 4 0");
-    assert_eq!(item(b"\x1b*r-7.5B"), "3 8 0 0 17 2 75000 8 8 0");
-    assert_eq!(item(b"\x1b*rC"), "3 4 0 0 18 0 0 4 4 0");
-    assert_eq!(item(b"\x1b&l+6.9D"), "3 8 0 0 11 1 69000 8 8 0");
-    assert_eq!(item(b"\x1b&a99999H"), "3 9 0 0 2 0 327670000 9 9 1");
-    assert_eq!(item(b"\x1b&k10.55559H"), "3 12 0 0 12 0 105555 12 12 0");
+    assert_eq!(item(b"\x1b&a+0C"), "3 6 0 0 1 1 0 6 6");
+    assert_eq!(item(b"\x1b&a-0C"), "3 6 0 0 1 2 0 6 6");
+    assert_eq!(item(b"\x1b&a-C"), "3 5 0 0 1 2 0 5 5");
+    assert_eq!(item(b"\x1b&aC"), "3 4 0 0 1 0 0 4 4");
+    assert_eq!(item(b"\x1b*r-7.5B"), "3 8 0 0 17 2 75000 8 8");
+    assert_eq!(item(b"\x1b*rC"), "3 4 0 0 18 0 0 4 4");
+    assert_eq!(item(b"\x1b&l+6.9D"), "3 8 0 0 11 1 69000 8 8");
+    assert_eq!(item(b"\x1b&a99999H"), "3 9 0 0 2 0 327670000 9 9");
+    assert_eq!(item(b"\x1b&k10.55559H"), "3 12 0 0 12 0 105555 12 12");
     // Not carried: none at all.
-    assert_eq!(item(b"\x1b&a-5X"), "3 6 0 0 0 0 0 6 6 0");
-    assert_eq!(item(b"\x1b*b5c"), "3 5 42 98 0 0 0 5 5 0");
-}
-
-#[test]
-fn items_say_whether_their_number_was_lowered() {
-    assert_eq!(item(b"\x1b&a32767C"), "3 9 0 0 1 0 327670000 9 9 0");
-    assert_eq!(item(b"\x1b&a32768C"), "3 9 0 0 1 0 327670000 9 9 1");
-    assert_eq!(item(b"\x1b&a-40000c"), "3 10 38 97 1 2 327670000 10 10 1");
-    assert_eq!(item(b"\x1b&l32767.5D"), "3 11 0 0 11 0 327670000 11 11 1");
-    assert_eq!(item_in(38, 107, b"+99999H"), "3 7 0 0 12 1 327670000 7 7 1");
-    // Whatever becomes of it: ignored, not allowed, not carried.
-    assert_eq!(item(b"\x1b*r40000B"), "3 9 0 0 17 0 327670000 9 9 1");
-    assert_eq!(item(b"\x1b*r-40000C"), "3 10 0 0 18 2 327670000 10 10 1");
-    assert_eq!(item(b"\x1b*t40000R"), "3 9 0 0 15 0 327670000 9 9 1");
-    assert_eq!(item(b"\x1b*b-40000W"), "3 10 0 0 22 2 327670000 10 10 1");
-    assert_eq!(item(b"\x1b&a40000X"), "3 9 0 0 0 0 0 9 9 1");
-    assert_eq!(item(b"\x1b&a32767X"), "3 9 0 0 0 0 0 9 9 0");
-    assert_eq!(item(b"\x1b(40000U"), "3 8 0 0 0 0 0 8 8 1");
-    assert_eq!(item(b"\x1b(s-40000wA"), "3 10 40 115 0 0 0 10 10 1");
-    // A piece that breaks has no number.
-    assert_eq!(item(b"\x1b&a40000 "), "4 8 0 0 2");
-    assert_eq!(item(b"\x1b&a40000"), "4 8 0 0 1");
-    assert_eq!(item(b"\x1b*b40000W"), "4 9 0 0 1");
+    assert_eq!(item(b"\x1b&a-5X"), "3 6 0 0 0 0 0 6 6");
+    assert_eq!(item(b"\x1b*b5c"), "3 5 42 98 0 0 0 5 5");
 }
 
 #[test]
 fn items_with_payload() {
-    assert_eq!(item(b"\x1b&p3X\x1bEA."), "3 8 0 0 21 0 30000 5 8 0");
-    assert_eq!(item(b"\x1b*b0W\x00"), "3 5 0 0 22 0 0 5 5 0");
-    assert_eq!(item(b"\x1b*bW\x00"), "3 4 0 0 22 0 0 4 4 0");
-    assert_eq!(item(b"\x1b*b1.9W\x00\x00"), "3 8 0 0 22 0 19000 7 8 0");
-    assert_eq!(item(b"\x1b*b+1W\x00\x00"), "3 7 0 0 22 1 10000 6 7 0");
+    assert_eq!(item(b"\x1b&p3X\x1bEA."), "3 8 0 0 21 0 30000 5 8");
+    assert_eq!(item(b"\x1b*b0W\x00"), "3 5 0 0 22 0 0 5 5");
+    assert_eq!(item(b"\x1b*bW\x00"), "3 4 0 0 22 0 0 4 4");
+    assert_eq!(item(b"\x1b*b1.9W\x00\x00"), "3 8 0 0 22 0 19000 7 8");
+    assert_eq!(item(b"\x1b*b+1W\x00\x00"), "3 7 0 0 22 1 10000 6 7");
     // A negative count has none.
-    assert_eq!(item(b"\x1b*b-3WABC"), "3 6 0 0 22 2 30000 6 6 0");
-    assert_eq!(item(b"\x1b*b-0.5WABC"), "3 8 0 0 22 2 5000 8 8 0");
-    assert_eq!(item(b"\x1b&p-1xA"), "3 6 38 112 21 2 10000 6 6 0");
+    assert_eq!(item(b"\x1b*b-3WABC"), "3 6 0 0 22 2 30000 6 6");
+    assert_eq!(item(b"\x1b*b-0.5WABC"), "3 8 0 0 22 2 5000 8 8");
+    assert_eq!(item(b"\x1b&p-1xA"), "3 6 38 112 21 2 10000 6 6");
     // Commands not carried have theirs too.
-    assert_eq!(item(b"\x1b*b2VABC"), "3 7 0 0 0 0 0 5 7 0");
-    assert_eq!(item(b"\x1b*b2vABC"), "3 7 42 98 0 0 0 5 7 0");
-    assert_eq!(item(b"\x1b(5WABCDEF"), "3 9 0 0 0 0 0 4 9 0");
-    assert_eq!(item(b"\x1b)s2WABC"), "3 7 0 0 0 0 0 5 7 0");
-    assert_eq!(item(b"\x1b*p2WABC"), "3 7 0 0 0 0 0 5 7 0");
+    assert_eq!(item(b"\x1b*b2VABC"), "3 7 0 0 0 0 0 5 7");
+    assert_eq!(item(b"\x1b*b2vABC"), "3 7 42 98 0 0 0 5 7");
+    assert_eq!(item(b"\x1b(5WABCDEF"), "3 9 0 0 0 0 0 4 9");
+    assert_eq!(item(b"\x1b)s2WABC"), "3 7 0 0 0 0 0 5 7");
+    assert_eq!(item(b"\x1b*p2WABC"), "3 7 0 0 0 0 0 5 7");
     // And others have none: *p#X, &b#V, &p#V.
-    assert_eq!(item(b"\x1b&b2VABC"), "3 5 0 0 0 0 0 5 5 0");
-    assert_eq!(item(b"\x1b&p2VABC"), "3 5 0 0 0 0 0 5 5 0");
-    assert_eq!(item_in(42, 98, b"3w\x1bEA3W"), "3 5 42 98 22 0 30000 2 5 0");
+    assert_eq!(item(b"\x1b&b2VABC"), "3 5 0 0 0 0 0 5 5");
+    assert_eq!(item(b"\x1b&p2VABC"), "3 5 0 0 0 0 0 5 5");
+    assert_eq!(item_in(42, 98, b"3w\x1bEA3W"), "3 5 42 98 22 0 30000 2 5");
     // In the middle of a stream.
     let line = format!("I 42 98 6 {}", hex(b"\x1b*b1wA2WBC\x0c"));
-    assert_eq!(answer(&line), "3 10 0 0 22 0 20000 8 10 0");
+    assert_eq!(answer(&line), "3 10 0 0 22 0 20000 8 10");
 }
 
 #[test]
@@ -289,7 +266,7 @@ fn items_with_short_payload() {
     // The lowered number counts.
     let mut stream = b"\x1b*b40000W".to_vec();
     stream.extend([0xFF; 32_767]);
-    let whole = "3 32776 0 0 22 0 327670000 9 32776 1";
+    let whole = "3 32776 0 0 22 0 327670000 9 32776";
     assert_eq!(item(&stream), whole);
     stream.pop();
     assert_eq!(item(&stream), "4 32775 0 0 1");
@@ -317,15 +294,15 @@ fn items_that_break() {
     assert_eq!(item(b"\x1b(5w"), "4 3 0 0 2");
     assert_eq!(item(b"\x1b(s"), "4 3 0 0 1");
     assert_eq!(item(b"\x1b(s5w"), "4 5 0 0 1");
-    assert_eq!(item(b"\x1b(@"), "3 3 0 0 0 0 0 3 3 0");
+    assert_eq!(item(b"\x1b(@"), "3 3 0 0 0 0 0 3 3");
     // The first and last bytes of each range.
-    assert_eq!(item(b"\x1b!`@"), "3 4 0 0 0 0 0 4 4 0");
-    assert_eq!(item(b"\x1b/~^"), "3 4 0 0 0 0 0 4 4 0");
-    assert_eq!(item(b"\x1b*b`"), "3 4 42 98 0 0 0 4 4 0");
-    assert_eq!(item(b"\x1b*b~"), "3 4 42 98 0 0 0 4 4 0");
-    assert_eq!(item_in(33, 126, b"1~"), "3 2 33 126 0 0 0 2 2 0");
-    assert_eq!(item_in(47, 96, b"-2W12"), "3 3 0 0 0 0 0 3 3 0");
-    assert_eq!(item_in(47, 96, b"2W12"), "3 4 0 0 0 0 0 2 4 0");
+    assert_eq!(item(b"\x1b!`@"), "3 4 0 0 0 0 0 4 4");
+    assert_eq!(item(b"\x1b/~^"), "3 4 0 0 0 0 0 4 4");
+    assert_eq!(item(b"\x1b*b`"), "3 4 42 98 0 0 0 4 4");
+    assert_eq!(item(b"\x1b*b~"), "3 4 42 98 0 0 0 4 4");
+    assert_eq!(item_in(33, 126, b"1~"), "3 2 33 126 0 0 0 2 2");
+    assert_eq!(item_in(47, 96, b"-2W12"), "3 3 0 0 0 0 0 3 3");
+    assert_eq!(item_in(47, 96, b"2W12"), "3 4 0 0 0 0 0 2 4");
 }
 
 // ---- D
@@ -580,7 +557,7 @@ fn a_plain_form_is_read_as_the_value_it_is_of() {
         let text = answer(&format!("N {sign} {size}"));
         // -0 is written as +0.
         let sign = if size == 0 { sign.min(1) } else { sign };
-        let expected = format!("{sign} {size} {} 0", text.len());
+        let expected = format!("{sign} {size} {}", text.len());
         assert_eq!(value(text.as_bytes()), expected);
     }
 }
@@ -654,7 +631,7 @@ fn a_file_of_lines() {
     let mut out = Vec::new();
     let file = b"V 0 35\nI 0 0 0 41\nD 0 2 - 0102\nP 0 0 1 0 0 - 00\nN 2 12500";
     run_leaves(&mut &file[..], &mut out).unwrap();
-    let expected = "0 50000 1 0\n0 1 0 0 65\n1 0102\ncbf29ce484222325 0\n-1.25\n";
+    let expected = "0 50000 1\n0 1 0 0 65\n1 0102\ncbf29ce484222325 0\n-1.25\n";
     assert_eq!(String::from_utf8(out).unwrap(), expected);
     // The bad line stops it, with its number; those before are answered.
     let mut out = Vec::new();

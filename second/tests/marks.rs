@@ -54,11 +54,10 @@ fn a_damaged_row_in_the_middle_of_a_graphic() {
     // A row that starts the graphic sets the margin to 0, but after that.
     assert_eq!(marks(b"A\x1b*b1m1W\x07"), "6\t7\t720\t4500\n");
     // A row below the page: y is brought into the page, and stays there.
-    // The number that brings it there is lowered.
     let low = b"\x1b*p99999Y\x1b*b1m1w\x001w\x00";
     assert_eq!(
         marks(low),
-        "0\t8\t0\t4500\n14\t7\t0\t19200\n17\t7\t0\t19200\n20\t1\t0\t19200\n"
+        "14\t7\t0\t19200\n17\t7\t0\t19200\n20\t1\t0\t19200\n"
     );
 }
 
@@ -123,24 +122,6 @@ fn the_other_findings() {
 }
 
 #[test]
-fn a_lowered_number_is_marked_where_the_cursor_was() {
-    // The command is carried out behind the mark.
-    assert_eq!(marks(b"\x1b&a99999H"), "0\t8\t0\t4500\n");
-    assert_eq!(
-        marks(b"A\x1b&a40000h-40000h40000R\x1bZ"),
-        "1\t8\t720\t4500\n10\t8\t15360\t4500\n17\t8\t0\t4500\n23\t3\t0\t19200\n"
-    );
-    // A margin that moves the cursor: HMI is 1.
-    assert_eq!(
-        marks_on(4_800, 10, b"\x1b*p4000X\x1b&k0.02H\x1b&a40000M\x1bZ"),
-        "16\t8\t96000\t240\n25\t3\t32768\t240\n"
-    );
-    // A row, from where it began.
-    let row = join(&[b"\x1b*p100X\x1b*b40000W", &[0; 32_767], b"\x1bZ"]);
-    assert_eq!(marks(&row), "7\t8\t2400\t4500\n32783\t3\t0\t4596\n");
-}
-
-#[test]
 fn other_pages() {
     // T is 0 on a page of at most 150 dots, and y is in the page.
     assert_eq!(marks_on(8, 1, b"AA\x1bZ"), "2\t3\t192\t24\n");
@@ -162,7 +143,7 @@ fn a_refused_measure() {
 }
 
 /// Streams with many findings, for the two laws below.
-const STREAMS: [&[u8]; 8] = [
+const STREAMS: [&[u8]; 7] = [
     b"\x1b&a5C\x1b&f1S\x1b*t300R\x1b*r1A\x1b*b3m1W\xFF\x0C\x1b&f1S",
     b"\x1b*p0YA\x1b&f0s\x1b*t300R\x1b*b2W\x81\xFF\x0CB",
     b"A\x1b&a3l9z\x1b\x1b&a1c2r-3l1.5.C\x09B\x08\x1b&p3X\x1bEA\x1bE\x1bZ\x1b&p9XAB",
@@ -170,7 +151,6 @@ const STREAMS: [&[u8]; 8] = [
     b"\x1b&k3GABC\x0D\x1b\x0D\x0A\x1b\x0A\x0C\x1b\x0C\x1b=\x1b?\x1b9\x1b8\x1b&l0c0E\x1b&",
     b"\x1b*t150R\x1b*b1m2W\xFF\xFF1W\xFF\x1b*b3W\xFF\xFF\xFF\x1b*r1A\x1b*rC\x1b*b0y",
     b"\x1b&f0s\x1b&a7c7R\x1b&f1s1s2s0s0S\x1b(s1WA\x1b)s2wAB",
-    b"A\x1b&a40000h-32768c2c40000r+99999v40000m3\x1b*p32767.5X\x0C\x1b*r1a\x1b*b40000yA",
 ];
 
 /// Place and finding of each item that has one, as `trace` lists them.

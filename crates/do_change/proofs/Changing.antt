@@ -14,7 +14,7 @@ use Rattle.rules.specs.declared.Spot.{Spot}
 use Rattle.rules.specs.declared.Layout.{Layout}
 use Rattle.rules.specs.declared.Raster.{Raster}
 use Rattle.rules.specs.declared.Finding.{Finding}
-use Rattle.rules.specs.declared.Finding.TheVariants.{Nothing, EndsInside, CannotStand, NotCarried, NotAllowed, StackLimit, NotNow, DamagedRow, CutShort}
+use Rattle.rules.specs.declared.Finding.TheVariants.{Nothing, EndsInside, CannotStand, NotCarried, NotAllowed, StackLimit, NotNow, DamagedRow}
 use Rattle.rules.specs.declared.Core.{Core}
 use Rattle.rules.specs.Measure.{stack_holds}
 use Rattle.rules.specs.Findings.{is_clean}
@@ -37,7 +37,6 @@ module _ (g : Measure) (k : Kind) (v : Value) (c : Core) where
   gated StackLimit d e h = record { bar = e; there = refl; aside = λ w m. refl; placed = tt }
   gated NotNow d e h = record { bar = e; there = refl; aside = λ w m. refl; placed = tt }
   gated DamagedRow d e h = record { bar = e; there = refl; aside = λ w m. refl; placed = tt }
-  gated CutShort d e h = record { bar = e; there = refl; aside = λ w m. refl; placed = tt }
 
 -- a finding that is one is not none
 never : (f : Finding) → is_clean f ≡ false → f ≡ Nothing → ⊥

@@ -7,7 +7,7 @@ use Rattle.rules.specs.declared.Measure.{Measure}
 use Rattle.rules.specs.declared.Code.{Code}
 use Rattle.rules.specs.declared.Escape.{Escape}
 use Rattle.rules.specs.declared.Finding.{Finding}
-use Rattle.rules.specs.declared.Finding.TheVariants.{Nothing, NotCarried, NotAllowed, EndsInside, CannotStand, StackLimit, NotNow, DamagedRow, CutShort}
+use Rattle.rules.specs.declared.Finding.TheVariants.{Nothing, NotCarried, NotAllowed, EndsInside, CannotStand, StackLimit, NotNow, DamagedRow}
 use Rattle.rules.specs.declared.Core.{Core}
 use Rattle.rules.specs.declared.Beside.{Beside}
 use Rattle.rules.specs.Findings.{is_clean}
@@ -46,7 +46,6 @@ module _ (g : Measure) where
       go StackLimit = done_nothing StackLimit c m p
       go NotNow = done_nothing NotNow c m p
       go DamagedRow = done_nothing DamagedRow c m p
-      go CutShort = done_nothing CutShort c m p
 
   -- a control code
   pub code_done : (k : Code) (c d : Core) (m : Beside) (t : Bool) → d ≡ coded g k c → ((c' : Core) → t ≡ ends_page (control k) c') → ActedFor g (gate g (control k) c m) c (acted_of d m Nothing t)

@@ -31,7 +31,7 @@ taken : (n : ℕ) (a : Spot) → n < stack_holds → ((l : List Spot) → a ≡ 
 taken n a h f = off_it origin (sym (get_or-replicate stack_holds n (off origin) origin h) ∙ sym (f (full (off origin))) ∙ f (full origin) ∙ get_or-replicate stack_holds n origin origin h)
 
 -- what is put there changes some stack
-pub written : (n : ℕ) (a : Spot) → n < stack_holds → ((l : List Spot) → l ≡ set l n a) → ⊥
+written : (n : ℕ) (a : Spot) → n < stack_holds → ((l : List Spot) → l ≡ set l n a) → ⊥
 written n a h f =
     off_it a
     (sym (get_or-replicate stack_holds n (off a) origin h) ∙ ap (λ l. get_or l n origin) (f (full (off a)))

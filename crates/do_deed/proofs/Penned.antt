@@ -18,11 +18,9 @@ use Rattle.rules.specs.Acts.{Meaning, nothing_done}
 use Rattle.state_pen.specs.declared.Pen.{Pen}
 use Rattle.state_pen.specs.Pens.{core_of}
 use Rattle.do_deed.specs.declared.Deed.{Deed}
-use Rattle.do_deed.specs.declared.Stacking.{Stacking}
 use Rattle.do_deed.specs.declared.Stacking.TheVariants.{Kept, Pushed, Popped, Emptied}
-use Rattle.do_deed.specs.Deeds.{deed_of, stack_by, whole_of, OnStack, DeedOn, DeedFor}
+use Rattle.do_deed.specs.Deeds.{deed_of, whole_of, OnStack, DeedOn, DeedFor}
 use Rattle.do_deed.proofs.Acts.{done_nothing}
-use Rattle.do_deed.proofs.One.{written}
 
 -- a pen of these parts
 abbrev pub pen_with : Spot → Layout → Raster → Bool → ℕ → Pen
@@ -59,17 +57,3 @@ module _ (p : Pen) (r : Deed) (k : OnStack r.stacking p r) where
   -- and so does a pop, whose pen stays where it was
   pub pop_placed : r.stacking ≡ Popped → (r.pen.depth < stack_holds) × (r.finding ≡ Nothing) × (r.ended ≡ false) × (r.pen.at ≡ p.at)
   pop_placed e = rw e at k
-
--- the deed with another finding
-abbrev pub with_finding : Finding → Deed → Deed
-with_finding f r = deed_of r.pen r.beside f r.ended r.stacking
-
--- where no stack is changed there was neither push nor pop, so that another finding may be told
-pub placed_so : (p : Pen) (r : Deed) (f : Finding) → ((l : List Spot) → l ≡ stack_by r.stacking p r.pen.depth l) → OnStack r.stacking p r → OnStack r.stacking p (with_finding f r)
-placed_so p r f = go r.stacking
-  where
-    go : (s : Stacking) → ((l : List Spot) → l ≡ stack_by s p r.pen.depth l) → OnStack s p r → OnStack s p (with_finding f r)
-    go Kept h k = tt
-    go Pushed h k = absurd (written p.depth p.at k.0 h)
-    go Popped h k = absurd (written r.pen.depth origin k.0 h)
-    go Emptied h k = tt

@@ -1,22 +1,19 @@
 -- What an item does, from what its bytes or its command do. Assumes nothing.
 use Prim.{tt}
 use mathlib.Core.Path.{◌≡◌, refl}
-use mathlib.Core.Bool.{Bool, true, false, not}
+use mathlib.Core.Bool.{false}
 use mathlib.Core.List.{List}
 use Prim.Native.Nat.{ℕ, ◌-◌}
 use lib.ListN.{take, drop}
 use Rattle.rules.specs.declared.Measure.{Measure}
-use Rattle.rules.specs.declared.Value.{Value}
-use Rattle.rules.specs.declared.Kind.{Kind}
-use Rattle.rules.specs.declared.Command.TheVariants.{Valued, Unknown}
+use Rattle.rules.specs.declared.Command.TheVariants.{Unknown}
 use Rattle.rules.specs.declared.Finding.TheVariants.{NotCarried}
 use Rattle.rules.specs.declared.Core.{Core}
 use Rattle.rules.specs.declared.Beside.{Beside}
-use Rattle.rules.specs.Commands.{use_of, is_ignored, uses_number}
-use Rattle.rules.specs.Acts.{mean_command, cut_finding, mean}
+use Rattle.rules.specs.Acts.{mean_command, mean}
 use Rattle.read_item.specs.declared.Item.{Item}
 use Rattle.read_item.specs.declared.Item.TheVariants as found
-use Rattle.read_item.specs.Items.{item_in, HeldCut, CutIn}
+use Rattle.read_item.specs.Items.{item_in}
 use Rattle.read_item.specs.contracts.Item.{the_type}
 use Rattle.read_item.proofs.Items.{other_items}
 use denote.Enum.Declared.{tag_of}
@@ -28,18 +25,13 @@ use Rattle.do_deed.specs.declared.Deed.{Deed}
 use Rattle.do_deed.specs.declared.Stacking.TheVariants.{Kept}
 use Rattle.do_deed.specs.Deeds.{deed_of, DeedOn}
 use Rattle.do_deed.proofs.Penned.{nothing}
-use Rattle.do_item.proofs.Passing.{command_stack, passed_deed, passed_false}
-
--- whether a command that a `match` has told uses its number
-pub uses_told : (k : Command) (kind : Kind) (v : Value) (u : Bool) → k ≡ Valued kind v → u ≡ not (is_ignored (use_of kind)) → u ≡ uses_number k
-uses_told k kind v u e h = rw e h
 
 -- what went the other way is no command
 pub no_command : (i : Item) → OneOf other_items (tag_of the_type i) → is_command i ≡ false
 no_command (found.Text b) h = refl
 no_command (found.Code b) h = refl
 no_command (found.Two b) h = refl
-no_command (found.Command k cut from to) h = absurd (miss other_items 3 tt h)
+no_command (found.Command k from to) h = absurd (miss other_items 3 tt h)
 no_command (found.Broken f) h = refl
 
 module _ (g : Measure) (p : Pen) (m : Beside) where
@@ -52,17 +44,8 @@ module _ (g : Measure) (p : Pen) (m : Beside) where
   unfolding mean_command
   command_unknown s k b page r e h = rw e (nothing g p m (λ (c : Core). mean_command g Unknown s c m) NotCarried r (λ c. refl) h b page)
 
-  -- a command with the part of the stream that is its payload; its number was not lowered
-  pub item_command : (s page : List ℕ) (i : Item) (k : Command) (cut : Bool) (from to : ℕ) (b : List ℕ) (r : Deed) (b' page' : List ℕ) → i ≡ found.Command k cut from to → cut ≡ false
+  -- a command with the part of the stream that is its payload
+  pub item_command : (s page : List ℕ) (i : Item) (k : Command) (from to : ℕ) (b : List ℕ) (r : Deed) (b' page' : List ℕ) → i ≡ found.Command k from to
       → DeedOn g (λ (c : Core). mean_command g k (take (to - from) (drop from s)) c m) p b page r b' page' → DeedOn g (λ (c : Core). mean g (item_in s i) c m) p b page r b' page'
   unfolding mean
-  item_command s page i k cut from to b r b' page' e f h = rw (e, f) (passed_false g p (λ (c : Core). mean_command g k (take (to - from) (drop from s)) c m) b page r b' page' h)
-
-  -- or it was, and this is passed on
-  pub item_cut : (s page : List ℕ) (i : Item) (k : Command) (cut : Bool) (from to : ℕ) (b : List ℕ) (d r : Deed) (b' page' : List ℕ) (u : Bool) → i ≡ found.Command k cut from to → cut ≡ true → CutIn i
-      → DeedOn g (λ (c : Core). mean_command g k (take (to - from) (drop from s)) c m) p b page d b' page' → u ≡ uses_number k
-      → r ≡ deed_of d.pen d.beside (cut_finding u d.finding) d.ended d.stacking → DeedOn g (λ (c : Core). mean g (item_in s i) c m) p b page r b' page'
-  unfolding mean
-  item_cut s page i k cut from to b d r b' page' u e f held h v x =
-      let held-k : cut ≡ true → HeldCut k = rw e at held in
-      rw (e, f, x, v) (passed_deed g p (λ (c : Core). mean_command g k (take (to - from) (drop from s)) c m) (uses_number k) b page d b' page' (λ c. command_stack g k (take (to - from) (drop from s)) c m (held-k f)) h)
+  item_command s page i k from to b r b' page' e h = rw e h

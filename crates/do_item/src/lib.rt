@@ -1,23 +1,19 @@
 // One item done: its meaning in the state it meets, its finding, and what its act does to the core, to the row method and to the page.
 // The core is large: its stack and its seed row stay where they are. What else it holds is handed over as a pen, the seed row is lent, and the deed
 // tells what is to be done to the stack. Nothing is refused: an item that is barred gives its finding and changes nothing. A measure within 4,800
-// by 6,800 dots is asked for, so that lengths fit, a depth that the stack holds, of a row that the bytes of the seed row from W/8 on are zero, and of a
-// number that was lowered that its size is 32,767.
+// by 6,800 dots is asked for, so that lengths fit, a depth that the stack holds, and of a row that the bytes of the seed row from W/8 on are zero.
 ghost use Rattle.std.specs.Prelude.{◌≡◌, true, ◌≤◌, length, drop};
 ghost use Rattle.rules.specs.declared.Core.{Core};
 ghost use Rattle.rules.specs.Measure.{Bounded};
 ghost use Rattle.rules.specs.Sound.{all_zero};
-ghost use Rattle.rules.specs.Commands.{uses_number};
-ghost use Rattle.rules.specs.Acts.{mean_command, cut_finding, mean};
-ghost use Rattle.read_item.specs.Items.{item_in, from_of, to_of, CutIn};
-ghost use Rattle.do_deed.specs.Deeds.{deed_of, DeedOn};
+ghost use Rattle.rules.specs.Acts.{mean_command, mean};
+ghost use Rattle.read_item.specs.Items.{item_in, from_of, to_of};
+ghost use Rattle.do_deed.specs.Deeds.{DeedOn};
 
 use do_command::{do_method, do_print, do_valued};
 use do_deed::{Deed, kept};
 use do_row::do_row;
 use do_short::do_bytes;
-use do_value::uses_value;
-use number_finding::is_clean;
 use read_item::Item;
 use rules::{Beside, Command, Finding, Measure};
 use state_pen::Pen;
@@ -44,48 +40,6 @@ fn do_command(
     }
 }
 
-// Whether the command uses its number.
-fn uses_number(k: Command) -> bool
-    ensures { result ≡ uses_number k }
-{
-    match k {
-        Command::Valued(kind, _) => uses_value(kind),
-        Command::Method(_) => true,
-        Command::Print(_) => true,
-        Command::Row(_) => true,
-        Command::Unknown => false,
-    }
-}
-
-// The finding of a command whose number was cut short, if it uses it: 8, but only if there is no other.
-fn cut_finding(cut: bool, f: Finding) -> Finding
-    ensures { result ≡ cut_finding cut f }
-{
-    if cut {
-        if is_clean(f) { Finding::CutShort } else { f }
-    } else {
-        f
-    }
-}
-
-// What such a command did: it is carried out all the same.
-fn passed_on(cut: bool, d: Deed) -> Deed
-    ensures { result ≡ deed_of d.pen d.beside (cut_finding cut d.finding) d.ended d.stacking }
-{
-    let found = d.finding;
-    let finding = cut_finding(cut, found);
-    let pen = d.pen;
-    let beside = d.beside;
-    let stacking = d.stacking;
-    Deed {
-        pen,
-        beside,
-        finding,
-        ended: d.ended,
-        stacking,
-    }
-}
-
 // An item as it was read from the stream: a command's payload is a part of the stream.
 pub fn do_item(
     page: &mut [u8],
@@ -97,21 +51,11 @@ pub fn do_item(
     seed: &mut [u8; 600],
 ) -> Deed
     requires bounded { Bounded g × (p.depth ≤ 20) × (all_zero (drop g.wide seed.old) ≡ true) × (length seed.old ≡ 600) }
-    requires i_bound { (from_of i ≤ to_of i) × (to_of i ≤ length s.now) × CutIn i }
+    requires i_bound { (from_of i ≤ to_of i) × (to_of i ≤ length s.now) }
     ensures { DeedOn g (λ (c : Core). mean g (item_in s.now i) c m) p seed.old page.old result seed.new page.new }
 {
-    let Item::Command {
-        command,
-        cut,
-        from,
-        to,
-    } = i
-    else {
+    let Item::Command { command, from, to } = i else {
         return do_bytes(g, i, p, m, seed);
     };
-    let d = do_command(page, g, command, &s[from..to], p, m, seed);
-    if cut {
-        return passed_on(uses_number(command), d);
-    }
-    d
+    do_command(page, g, command, &s[from..to], p, m, seed)
 }

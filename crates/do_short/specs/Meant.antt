@@ -31,5 +31,5 @@ abbrev pub is_command : Item → Bool
 is_command (Text b) = false
 is_command (Code b) = false
 is_command (Two b) = false
-is_command (Command k cut from to) = true
+is_command (Command k from to) = true
 is_command (Broken f) = false

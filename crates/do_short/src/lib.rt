@@ -187,7 +187,6 @@ pub fn do_bytes(g: Measure, i: Item, p: Pen, m: Beside, seed: &mut [u8; 600]) ->
         Item::Two(b) => do_escape_byte(g, b, p, m, seed),
         Item::Command {
             command: _,
-            cut: _,
             from: _,
             to: _,
         } => kept(Finding::Nothing, p, m),

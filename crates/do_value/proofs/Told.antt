@@ -1,9 +1,9 @@
 -- How a command uses its value, told by the code's enum. Assumes nothing.
 use mathlib.Core.Path.{◌≡◌, sym, ap, ◌∙◌}
-use mathlib.Core.Bool.{Bool, not}
+use mathlib.Core.Bool.{Bool}
 use Rattle.rules.specs.declared.Kind.{Kind}
 use Rattle.rules.specs.declared.Value.{Value}
-use Rattle.rules.specs.Commands.{Use, use_of, is_ignored, used_value, is_negative}
+use Rattle.rules.specs.Commands.{Use, use_of, used_value, is_negative}
 use Rattle.do_value.specs.declared.Using.{Using}
 use Rattle.do_value.specs.Uses.{meant}
 
@@ -18,7 +18,3 @@ used_told = use_told used_value
 -- whether it is negative, at the case told
 pub negative_told : (k : Kind) (v : Value) (u w : Using) (r : Bool) → meant u ≡ use_of k → u ≡ w → r ≡ is_negative (meant w) v → r ≡ is_negative (use_of k) v
 negative_told = use_told is_negative
-
--- whether it is used at all, at the case told
-pub uses_told : (k : Kind) (u w : Using) (r : Bool) → meant u ≡ use_of k → u ≡ w → r ≡ not (is_ignored (meant w)) → r ≡ not (is_ignored (use_of k))
-uses_told k u w r e t h = h ∙ ap (λ (x : Using). not (is_ignored (meant x))) (sym t) ∙ ap (λ (x : Use). not (is_ignored x)) e

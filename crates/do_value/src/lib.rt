@@ -1,8 +1,8 @@
 // Paper 01, "Commands": how a command uses its value: as a position, with its fraction, its whole part only, or not at all.
 // Nothing is refused: any value has its use, and whether it is negative in that use is an answer.
-ghost use Rattle.std.specs.Prelude.{◌≡◌, not, ◌&&◌, ◌≤◌, ltb};
+ghost use Rattle.std.specs.Prelude.{◌≡◌, ◌&&◌, ◌≤◌, ltb};
 ghost use Rattle.rules.specs.Number.{size_of, has_minus, whole_part};
-ghost use Rattle.rules.specs.Commands.{whole, full, use_of, is_ignored, position_value, used_value, is_negative};
+ghost use Rattle.rules.specs.Commands.{whole, full, use_of, position_value, used_value, is_negative};
 ghost use Rattle.do_value.specs.Uses.{meant};
 
 use rules::{Kind, Value};
@@ -117,19 +117,6 @@ pub fn used_value(k: Kind, v: Value) -> Value
         Using::Full => full_value(v),
         Using::Whole => whole_value(v),
         Using::Ignored => Value::Absolute(0),
-    }
-}
-
-// Whether the command uses its value at all.
-pub fn uses_value(k: Kind) -> bool
-    ensures { result ≡ not (is_ignored (use_of k)) }
-{
-    let u = use_of(k);
-    match u {
-        Using::Position => true,
-        Using::Full => true,
-        Using::Whole => true,
-        Using::Ignored => false,
     }
 }
 

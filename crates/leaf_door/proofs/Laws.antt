@@ -1,6 +1,6 @@
 -- What a leaf gave is what its definition gives. Assumes nothing.
 use mathlib.Core.Path.{◌≡◌, sym, ◌∙◌, ap}
-use mathlib.Core.Bool.{Bool, true, false, cond}
+use mathlib.Core.Bool.{Bool, true, false}
 use mathlib.Core.List.{List, []}
 use Prim.Native.Nat.{ℕ}
 use Rattle.common.specs.Stores.{Wrote}
@@ -15,10 +15,6 @@ use Rattle.leaf_field.specs.Fields.{field, opened, value_of}
 -- a number of what was given is that number of what it equals
 pub passed : {A : Type 0} (f : A → ℕ) (x y : A) (r : ℕ) → y ≡ x → r ≡ f y → r ≡ f x
 passed f x y r e g = g ∙ ap f e
-
--- whether a size was lowered, by its number
-pub cut_passed : (x y : Bool) (r : ℕ) → y ≡ x → r ≡ cond y 1 0 → r ≡ cond x 1 0
-cut_passed x y r e g = rw (← e) g
 
 -- a field of what was read is that field of what the rules read there
 pub field_read : (s : List ℕ) (at first group n w : ℕ) (r : ReadItem) (q : Sequence) → q ≡ opened first group → r ≡ read_at s at q → w ≡ field r n

@@ -1,6 +1,6 @@
 // The leaves one by one behind a boundary to C, for tests and measurements: a value, an item, a row, a painting, a count.
 // Each function hands on what its leaf promises; an answer that is an enum is told by numbers. Nothing is refused.
-ghost use Rattle.std.specs.Prelude.{◌≡◌, cond, [], ◌++◌, ◌+◌, ◌-◌, ◌≤◌, min, length, drop, replicate};
+ghost use Rattle.std.specs.Prelude.{◌≡◌, [], ◌++◌, ◌+◌, ◌-◌, ◌≤◌, min, length, drop, replicate};
 ghost use Rattle.common.specs.Bits.{ones_all};
 ghost use Rattle.common.specs.Stores.{Wrote};
 ghost use Rattle.rules.specs.Dots.{painted};
@@ -10,7 +10,7 @@ ghost use Rattle.read_item.specs.Items.{read_at};
 ghost use Rattle.row_decode.specs.Decoding.{Decoded};
 ghost use Rattle.leaf_field.specs.Fields.{sign_number, opened, field, value_of};
 
-use leaf_field::{cut_number, field_of, sign_of, size_of};
+use leaf_field::{field_of, sign_of, size_of};
 use rules::{Sequence, Value};
 
 // The sign of the value at a place.
@@ -31,15 +31,6 @@ pub extern "C" fn rov_value_size(s: &[u8], at: usize) -> u32
     let v = read_number::read_value(s, at);
     let x = v.value;
     size_of(x)
-}
-
-// Whether the size of the number at a place was lowered: 1 or 0.
-#[unsafe(no_mangle)]
-pub extern "C" fn rov_value_cut(s: &[u8], at: usize) -> u32
-    ensures { result ≡ cond (value (drop at s.now)).cut 1 0 }
-{
-    let v = read_number::read_value(s, at);
-    cut_number(v.cut)
 }
 
 // The place behind the value at a place.

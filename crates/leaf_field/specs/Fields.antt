@@ -72,7 +72,7 @@ abbrev pub item_number : Item → ℕ
 item_number (found.Text b) = 0
 item_number (found.Code b) = 1
 item_number (found.Two b) = 2
-item_number (found.Command k cut from to) = 3
+item_number (found.Command k from to) = 3
 item_number (found.Broken f) = 4
 
 -- the byte, the command's number, or the finding
@@ -80,43 +80,36 @@ abbrev pub detail : Item → ℕ
 detail (found.Text b) = b
 detail (found.Code b) = b
 detail (found.Two b) = b
-detail (found.Command k cut from to) = command_number k
+detail (found.Command k from to) = command_number k
 detail (found.Broken f) = finding_number f
 
 abbrev pub value_sign : Item → ℕ
 value_sign (found.Text b) = 0
 value_sign (found.Code b) = 0
 value_sign (found.Two b) = 0
-value_sign (found.Command k cut from to) = command_sign k
+value_sign (found.Command k from to) = command_sign k
 value_sign (found.Broken f) = 0
 
 abbrev pub value_size : Item → ℕ
 value_size (found.Text b) = 0
 value_size (found.Code b) = 0
 value_size (found.Two b) = 0
-value_size (found.Command k cut from to) = command_size k
+value_size (found.Command k from to) = command_size k
 value_size (found.Broken f) = 0
 
 abbrev pub payload_from : Item → ℕ
 payload_from (found.Text b) = 0
 payload_from (found.Code b) = 0
 payload_from (found.Two b) = 0
-payload_from (found.Command k cut from to) = from
+payload_from (found.Command k from to) = from
 payload_from (found.Broken f) = 0
 
 abbrev pub payload_to : Item → ℕ
 payload_to (found.Text b) = 0
 payload_to (found.Code b) = 0
 payload_to (found.Two b) = 0
-payload_to (found.Command k cut from to) = to
+payload_to (found.Command k from to) = to
 payload_to (found.Broken f) = 0
-
-abbrev pub value_cut : Item → ℕ
-value_cut (found.Text b) = 0
-value_cut (found.Code b) = 0
-value_cut (found.Two b) = 0
-value_cut (found.Command k cut from to) = cond cut 1 0
-value_cut (found.Broken f) = 0
 
 -- the open sequence from two bytes, 0 for none
 abbrev pub opened : ℕ → ℕ → Sequence
@@ -131,7 +124,7 @@ group_of Closed = 0
 group_of (Open f g) = g
 
 -- a field of what was read: 0 kind, 1 the place behind it, 2 and 3 the sequence then open, 4 the byte, the command's number or the
--- finding, 5 and 6 the value's sign and size, 7 and 8 the payload's places, 9 whether the number's size was lowered
+-- finding, 5 and 6 the value's sign and size, 7 and 8 the payload's places
 abbrev pub field : ReadItem → ℕ → ℕ
 field r n =
     cond (eqb n 0) (item_number r.item)
@@ -142,5 +135,4 @@ field r n =
     (cond (eqb n 5) (value_sign r.item)
     (cond (eqb n 6) (value_size r.item)
     (cond (eqb n 7) (payload_from r.item)
-    (cond (eqb n 8) (payload_to r.item)
-    (value_cut r.item)))))))))
+    (payload_to r.item))))))))

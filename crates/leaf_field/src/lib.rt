@@ -1,7 +1,7 @@
 // A value and what was read told by numbers, field by field, for a caller in C. Nothing is refused.
-ghost use Rattle.std.specs.Prelude.{◌≡◌, cond};
+ghost use Rattle.std.specs.Prelude.{◌≡◌};
 ghost use Rattle.rules.specs.Number.{size_of};
-ghost use Rattle.leaf_field.specs.Fields.{sign_number, kind_number, command_number, command_sign, command_size, item_number, detail, value_sign, value_size, payload_from, payload_to, value_cut, first_of, group_of, field};
+ghost use Rattle.leaf_field.specs.Fields.{sign_number, kind_number, command_number, command_sign, command_size, item_number, detail, value_sign, value_size, payload_from, payload_to, first_of, group_of, field};
 
 use number_finding::finding_number;
 use read_item::{Item, ReadItem};
@@ -25,13 +25,6 @@ pub fn size_of(v: Value) -> u32
         Value::Absolute(n) => n,
         Value::Relative { negative: _, size } => size,
     }
-}
-
-// Whether a number's size was lowered: 1 or 0.
-pub fn cut_number(cut: bool) -> u32
-    ensures { result ≡ cond cut 1 0 }
-{
-    if cut { 1 } else { 0 }
 }
 
 // A kind's number in the paper's list.
@@ -110,7 +103,6 @@ fn item_number(i: Item) -> usize
         Item::Two(_) => 2,
         Item::Command {
             command: _,
-            cut: _,
             from: _,
             to: _,
         } => 3,
@@ -128,7 +120,6 @@ fn detail_of(i: Item) -> usize
         Item::Two(b) => b as usize,
         Item::Command {
             command,
-            cut: _,
             from: _,
             to: _,
         } => command_number(command),
@@ -146,7 +137,6 @@ fn value_sign(i: Item) -> usize
         Item::Two(_) => 0,
         Item::Command {
             command,
-            cut: _,
             from: _,
             to: _,
         } => command_sign(command),
@@ -164,7 +154,6 @@ fn value_size(i: Item) -> usize
         Item::Two(_) => 0,
         Item::Command {
             command,
-            cut: _,
             from: _,
             to: _,
         } => command_size(command),
@@ -182,7 +171,6 @@ fn payload_from(i: Item) -> usize
         Item::Two(_) => 0,
         Item::Command {
             command: _,
-            cut: _,
             from,
             to: _,
         } => from,
@@ -200,28 +188,9 @@ fn payload_to(i: Item) -> usize
         Item::Two(_) => 0,
         Item::Command {
             command: _,
-            cut: _,
             from: _,
             to,
         } => to,
-        Item::Broken(_) => 0,
-    }
-}
-
-// Whether the size of a command's number was lowered: 1 or 0, 0 of another item.
-fn value_cut(i: Item) -> usize
-    ensures { result ≡ value_cut i }
-{
-    match i {
-        Item::Text(_) => 0,
-        Item::Code(_) => 0,
-        Item::Two(_) => 0,
-        Item::Command {
-            command: _,
-            cut,
-            from: _,
-            to: _,
-        } => cut_number(cut) as usize,
         Item::Broken(_) => 0,
     }
 }
@@ -276,8 +245,5 @@ pub fn field_of(r: ReadItem, n: u8) -> usize
     if n == 7 {
         return payload_from(item);
     }
-    if n == 8 {
-        return payload_to(item);
-    }
-    value_cut(item)
+    payload_to(item)
 }

@@ -1,6 +1,6 @@
-// The paper's number for each finding, each refusal and each verdict; whether there is a finding at all, and whether it is one of 1 to 6.
+// The paper's number for each finding, each refusal and each verdict, and whether there is a finding at all.
 ghost use Rattle.std.specs.Prelude.{◌≡◌};
-ghost use Rattle.rules.specs.Findings.{finding_number, is_clean, is_faulty, refusal_number, verdict_number};
+ghost use Rattle.rules.specs.Findings.{finding_number, is_clean, refusal_number, verdict_number};
 
 use rules::{Finding, Refusal, Verdict};
 
@@ -17,7 +17,6 @@ pub fn finding_number(f: Finding) -> u32
         Finding::StackLimit => 5,
         Finding::NotNow => 6,
         Finding::DamagedRow => 7,
-        Finding::CutShort => 8,
     }
 }
 
@@ -33,25 +32,7 @@ pub fn is_clean(f: Finding) -> bool
         Finding::NotAllowed => false,
         Finding::StackLimit => false,
         Finding::NotNow => false,
-        Finding::DamagedRow => false, // a row of zeros is drawn
-        Finding::CutShort => false, // the command is carried out
-    }
-}
-
-// Whether it is one of 1 to 6, with which nothing is done.
-pub fn is_faulty(f: Finding) -> bool
-    ensures { result ≡ is_faulty f }
-{
-    match f {
-        Finding::Nothing => false,
-        Finding::EndsInside => true,
-        Finding::CannotStand => true,
-        Finding::NotCarried => true,
-        Finding::NotAllowed => true,
-        Finding::StackLimit => true,
-        Finding::NotNow => true,
-        Finding::DamagedRow => false, // the plain stream has its zeros
-        Finding::CutShort => false, // and the number as it was used
+        Finding::DamagedRow => false,
     }
 }
 

@@ -12,8 +12,8 @@ use Rattle.common.proofs.Choices.{choice}
 use Rattle.rules.specs.declared.Value.{Value}
 use Rattle.rules.specs.declared.Value.TheVariants.{Absolute, Relative}
 use Rattle.rules.specs.declared.Kind.{Kind}
-use Rattle.rules.specs.Commands.{use_of, is_ignored}
-use Rattle.rules.specs.Plain.{decimal_up_to, decimal, places_up_to, put_size, put_value, put_used}
+use Rattle.rules.specs.Commands.{use_of}
+use Rattle.rules.specs.Plain.{decimal_up_to, decimal, places_up_to, put_size, put_value, is_ignored, put_used}
 
 -- a choice of two texts, each in front of s
 cond_append : (t : Bool) (a b s : List ℕ) → cond t (a ++ s) (b ++ s) ≡ cond t a b ++ s

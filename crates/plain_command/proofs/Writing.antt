@@ -9,9 +9,9 @@ use Rattle.common.specs.Stores.{Wrote}
 use Rattle.common.proofs.Stores.{wrote_both}
 use Rattle.rules.specs.declared.Value.{Value}
 use Rattle.rules.specs.declared.Kind.{Kind}
-use Rattle.rules.specs.Commands.{spelled, use_of, is_ignored}
+use Rattle.rules.specs.Commands.{spelled, use_of}
 use Rattle.rules.specs.Acts.{order}
-use Rattle.rules.specs.Plain.{put_value, put}
+use Rattle.rules.specs.Plain.{put_value, is_ignored, put}
 use Rattle.plain_length.specs.Counts.{Counted}
 use Rattle.number_write.proofs.Laws.{value_append, used_append}
 use Rattle.plain_head.proofs.Heads.{wrote_through}

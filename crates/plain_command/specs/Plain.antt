@@ -1,7 +1,8 @@
 -- A command written plain: the bytes that name it.
 use Rattle.std.specs.Prelude.{not}
 use Rattle.rules.specs.declared.Kind.{Kind}
-use Rattle.rules.specs.Commands.{spelled, use_of, is_ignored}
+use Rattle.rules.specs.Commands.{spelled, use_of}
+use Rattle.rules.specs.Plain.{is_ignored}
 use Rattle.plain_command.specs.declared.Named.{Named}
 
 -- the three bytes that name a command, and whether a value is written among them

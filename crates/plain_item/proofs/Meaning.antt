@@ -1,6 +1,6 @@
 -- What an item means, written: the acts of the rules come to the bytes that code writes for it. Assumes nothing.
 use mathlib.Core.Path.{◌≡◌, refl, sym, ◌∙◌}
-use mathlib.Core.Bool.{Bool, true, false, cond, ◌&&◌}
+use mathlib.Core.Bool.{Bool, true, false, cond}
 use mathlib.Core.List.{List, [], ◌∷◌, ◌++◌, append-nil, append_assoc}
 use Prim.Native.Nat.{ℕ, ◌-◌, ◌≤◌}
 use lib.Dec.{eqb, leb}
@@ -20,22 +20,21 @@ use Rattle.rules.specs.declared.Escape.TheVariants.{Reset, ClearMargins, HalfLin
 use Rattle.rules.specs.declared.Command.{Command}
 use Rattle.rules.specs.declared.Command.TheVariants.{Valued, Method, Print, Row, Unknown}
 use Rattle.rules.specs.declared.Finding.{Finding}
-use Rattle.rules.specs.declared.Finding.TheVariants.{Nothing, EndsInside, CannotStand, NotCarried, NotAllowed, StackLimit, NotNow, DamagedRow, CutShort}
+use Rattle.rules.specs.declared.Finding.TheVariants.{Nothing, NotCarried, NotAllowed, EndsInside, CannotStand, StackLimit, NotNow, DamagedRow}
 use Rattle.rules.specs.declared.Core.{Core}
 use Rattle.rules.specs.declared.Beside.{Beside}
 use Rattle.rules.specs.Measure.{row_holds}
-use Rattle.rules.specs.Findings.{is_clean, is_faulty}
+use Rattle.rules.specs.Findings.{is_clean}
 use Rattle.rules.specs.States.{beside_of}
 use Rattle.rules.specs.Number.{whole_part}
-use Rattle.rules.specs.Commands.{print_spelled, row_spelled, whole, use_of, used_value, uses_number, is_negative}
+use Rattle.rules.specs.Commands.{print_spelled, row_spelled, whole, use_of, used_value, is_negative}
 use Rattle.rules.specs.Rows.{decoded}
 use Rattle.rules.specs.Codes.{code_byte, escape_byte}
 use Rattle.rules.specs.Items as rule
-use Rattle.rules.specs.Acts.{Act, type, control, escape, order, print, draw, drawn, next, next_all, bar, gate, Meaning, meaning, nothing_done, seed_now, mean_code, mean_two, mean_row, mean_command, cut_finding, mean}
+use Rattle.rules.specs.Acts.{Act, type, control, escape, order, print, draw, drawn, next, next_all, beside_after, bar, gate, Meaning, meaning, nothing_done, seed_now, mean_code, mean_two, mean_row, mean_command, mean}
 use Rattle.rules.specs.Plain.{put, put_all}
 use Rattle.theorems.specs.Facts.{Shaped}
 use Rattle.theorems.proofs.Lengths.{seed_long, decoded_length}
-use Rattle.theorems.proofs.Faults.{bar_tells}
 use Rattle.plain_head.specs.Heads.{head_of}
 use Rattle.plain_head.proofs.Heads.{print_append, row_append}
 use Rattle.plain_command.proofs.Writing.{order_append}
@@ -97,20 +96,19 @@ module _ (g : Measure) (c : Core) (m : Beside) (s : List ℕ) where
       (λ e2. choice_by (TellsClean (27 ∷ b ∷ [])) (eqb b (escape_byte HalfLine)) (two_gate b HalfLine)
       (λ e3. refl)))
 
-  -- what a meaning tells by whether its finding is one of 1 to 6
-  abbrev TellsDone : List ℕ → Meaning → Type 0
-  TellsDone w o = put_all o.acts s ≡ cond (is_faulty o.finding) [] w ++ s
-
-  -- a finding bars the act, and it is one of them
-  barred_tells : (f : Finding) (w : List ℕ) → is_faulty f ≡ true → TellsDone w (nothing_done f m)
-  unfolding put_all
-  barred_tells f w e = rw e
-
-  order_gate : (k : Kind) (v : Value) → TellsDone (put (order k v) []) (gate g (order k v) c m)
+  order_gate : (k : Kind) (v : Value) → TellsClean (put (order k v) []) (gate g (order k v) c m)
   unfolding gate put_all
-  order_gate k v =
-      choice_by (TellsDone (put (order k v) [])) (is_clean (bar g (order k v) c)) (λ e. order_append k v s)
-      (λ e. barred_tells (bar g (order k v) c) (put (order k v) []) (rw e at (bar_tells g (order k v) c)))
+  order_gate k v = go (bar g (order k v) c)
+    where
+      go : (f : Finding) → TellsClean (put (order k v) []) (cond (is_clean f) (meaning (order k v ∷ []) Nothing (beside_after (order k v) m)) (nothing_done f m))
+      go Nothing = order_append k v s
+      go EndsInside = refl
+      go CannotStand = refl
+      go NotCarried = refl
+      go NotAllowed = refl
+      go StackLimit = refl
+      go NotNow = refl
+      go DamagedRow = refl
 
   print_gate : (p : List ℕ) → put_all (gate g (print p) c m).acts s ≡ put (print p) [] ++ s
   unfolding gate bar put_all
@@ -129,35 +127,20 @@ module _ (g : Measure) (c : Core) (m : Beside) (s : List ℕ) where
   unfolding next_all next drawn
   row_back r e = take_at r (replicate (row_holds - length r) 0) g.wide e
 
-  -- that a number was cut short bars nothing
-  cut_faulty : (cut : Bool) (f : Finding) → is_faulty (cut_finding cut f) ≡ is_faulty f
-  cut_faulty false f = refl
-  cut_faulty true Nothing = refl
-  cut_faulty true EndsInside = refl
-  cut_faulty true CannotStand = refl
-  cut_faulty true NotCarried = refl
-  cut_faulty true NotAllowed = refl
-  cut_faulty true StackLimit = refl
-  cut_faulty true NotNow = refl
-  cut_faulty true DamagedRow = refl
-  cut_faulty true CutShort = refl
-
   -- a command
-  command_tells : (k : Command) (cut : Bool) (p : List ℕ) → g.wide ≤ row_holds → Shaped c
-      → put_all (mean_command g k p c m).acts s ≡ plain_command k p (cut_finding cut (mean_command g k p c m).finding) (take g.wide (next_all g (mean_command g k p c m).acts c).seed) ++ s
+  command_tells : (k : Command) (p : List ℕ) → g.wide ≤ row_holds → Shaped c
+      → put_all (mean_command g k p c m).acts s ≡ plain_command k p (mean_command g k p c m).finding (take g.wide (next_all g (mean_command g k p c m).acts c).seed) ++ s
   unfolding mean_command plain_command put_all mean_row
-  command_tells (Valued k v) cut p w h =
-      rw (cut_faulty cut (cond (is_negative (use_of k) v) (nothing_done NotAllowed m) (gate g (order k (used_value (use_of k) v)) c m)).finding)
-      (choice (TellsDone (put (order k (used_value (use_of k) v)) [])) (is_negative (use_of k) v) {a = nothing_done NotAllowed m} refl (order_gate k (used_value (use_of k) v)))
-  command_tells (Method v) cut p w h =
+  command_tells (Valued k v) p w h = choice (TellsClean (put (order k (used_value (use_of k) v)) [])) (is_negative (use_of k) v) {a = nothing_done NotAllowed m} refl (order_gate k (used_value (use_of k) v))
+  command_tells (Method v) p w h =
       choice (λ (o : Meaning). put_all o.acts s ≡ s) (is_negative whole v) {a = nothing_done NotAllowed m} refl
       (choice (λ (o : Meaning). put_all o.acts s ≡ s) (leb (whole_part v) 3) {a = meaning [] Nothing (beside_of (whole_part v))} {b = nothing_done NotAllowed m} refl refl)
-  command_tells (Print v) cut p w h = go (is_negative whole v)
+  command_tells (Print v) p w h = go (is_negative whole v)
     where
       go : (t : Bool) → put_all (cond t (nothing_done NotAllowed m) (gate g (print p) c m)).acts s ≡ cond t [] (put (print p) []) ++ s
       go true = refl
       go false = print_gate p
-  command_tells (Row v) cut p w h = go (is_negative whole v)
+  command_tells (Row v) p w h = go (is_negative whole v)
     where
       go : (t : Bool) → put_all (cond t (nothing_done NotAllowed m) (mean_row g p c m)).acts s
           ≡ cond t [] (put (draw (take g.wide (next_all g (cond t (nothing_done NotAllowed m) (mean_row g p c m)).acts c).seed)) []) ++ s
@@ -166,7 +149,7 @@ module _ (g : Measure) (c : Core) (m : Beside) (s : List ℕ) where
           let r = (decoded g.wide m.method (seed_now c) p).bytes in
           let l = decoded_length g.wide m.method (seed_now c) p (rw (seed_long c h) w) in
           rw (row_back r l) (row_behind_lem r s)
-  command_tells Unknown cut p w h = refl
+  command_tells Unknown p w h = refl
 
   -- any item
   pub item_tells : (i : rule.Item) → g.wide ≤ row_holds → Shaped c
@@ -175,5 +158,5 @@ module _ (g : Measure) (c : Core) (m : Beside) (s : List ℕ) where
   item_tells (rule.text b) w h = text_tells b
   item_tells (rule.code b) w h = code_tells b
   item_tells (rule.two b) w h = two_tells b
-  item_tells (rule.command k cut p) w h = command_tells k (cut && uses_number k) p w h
+  item_tells (rule.command k p) w h = command_tells k p w h
   item_tells (rule.broken f) w h = broken_tells

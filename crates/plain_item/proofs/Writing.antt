@@ -16,7 +16,7 @@ use Rattle.rules.specs.declared.Value.{Value}
 use Rattle.rules.specs.declared.Command.{Command}
 use Rattle.rules.specs.declared.Command.TheVariants.{Valued, Print, Row}
 use Rattle.rules.specs.declared.Finding.{Finding}
-use Rattle.rules.specs.Findings.{is_clean, is_faulty}
+use Rattle.rules.specs.Findings.{is_clean}
 use Rattle.rules.specs.Commands.{print_spelled, row_spelled, whole, use_of, used_value, is_negative}
 use Rattle.rules.specs.Acts.{order}
 use Rattle.rules.specs.Plain.{put}
@@ -92,7 +92,7 @@ module _ (v : Value) (row : List ℕ) (l : List ℕ) (at m n : ℕ) (y : Bool) (
 
 module _ {l l' : List ℕ} {at r : ℕ} where
   -- a command with a value that is carried out
-  pub valued_put : (k : Kind) (v u : Value) (f : Finding) (x : Bool) → x ≡ is_faulty f → x ≡ false → u ≡ used_value (use_of k) v → PutsShort l at (put (order k u) []) l' r
+  pub valued_put : (k : Kind) (v u : Value) (f : Finding) (x : Bool) → x ≡ is_clean f → x ≡ true → u ≡ used_value (use_of k) v → PutsShort l at (put (order k u) []) l' r
       → (p row : List ℕ) → PutsShort l at (plain_command (Valued k v) p f row) l' r
   unfolding plain_command
   valued_put k v u f x e h y q p row = rw (← e, h, ← y) q
@@ -101,10 +101,10 @@ module _ {l l' : List ℕ} {at r : ℕ} where
   command_told i j p f row e q = rw e q
 
   -- in the stream
-  pub item_command : (s : List ℕ) (i : Item) (k : Command) (cut : Bool) (from to : ℕ) (f : Finding) (row : List ℕ) → i ≡ found.Command k cut from to
+  pub item_command : (s : List ℕ) (i : Item) (k : Command) (from to : ℕ) (f : Finding) (row : List ℕ) → i ≡ found.Command k from to
       → PutsShort l at (plain_command k (take (to - from) (drop from s)) f row) l' r → PutsShort l at (plain_item (item_in s i) f row) l' r
   unfolding plain_item
-  item_command s i k cut from to f row e q = rw e q
+  item_command s i k from to f row e q = rw e q
 
   pub item_text : (s : List ℕ) (i : Item) (b : ℕ) (f : Finding) (row : List ℕ) → i ≡ found.Text b → Puts l at (b ∷ []) l' r → PutsShort l at (plain_item (item_in s i) f row) l' r
   unfolding plain_item
@@ -128,8 +128,8 @@ module _ (l : List ℕ) (at : ℕ) where
   unfolding plain_item
   item_broken s i x f row e = rw e (short_none l at)
 
-  -- a command with one of the findings 1 to 6
-  pub valued_none : (k : Kind) (v : Value) (f : Finding) (x : Bool) → x ≡ is_faulty f → x ≡ true → (p row : List ℕ) → PutsShort l at (plain_command (Valued k v) p f row) l at
+  -- a command with a finding
+  pub valued_none : (k : Kind) (v : Value) (f : Finding) (x : Bool) → x ≡ is_clean f → x ≡ false → (p row : List ℕ) → PutsShort l at (plain_command (Valued k v) p f row) l at
   unfolding plain_command
   valued_none k v f x e h p row = rw (← e, h) (short_none l at)
 
@@ -143,5 +143,5 @@ module _ (l : List ℕ) (at : ℕ) where
   row_none v row x e h f p = rw (← e, h) (short_none l at)
 
 -- a payload is as long as a value can say
-pub part_short : (s : List ℕ) (i : Item) (k : Command) (cut : Bool) (from to : ℕ) → i ≡ found.Command k cut from to → to_of i ≤ from_of i + 32767 → length (take (to - from) (drop from s)) ≤ 32767
-part_short s i k cut from to e h = let l = length-take (to - from) (drop from s) in omega (arith, ap from_of e, ap to_of e)
+pub part_short : (s : List ℕ) (i : Item) (k : Command) (from to : ℕ) → i ≡ found.Command k from to → to_of i ≤ from_of i + 32767 → length (take (to - from) (drop from s)) ≤ 32767
+part_short s i k from to e h = let l = length-take (to - from) (drop from s) in omega (arith, ap from_of e, ap to_of e)

@@ -11,7 +11,7 @@ ghost use Rattle.plain_item.specs.Plain.{PutsShort, plain_command, plain_item};
 
 use do_value::{used_value, whole_negative};
 use dot_ink::used;
-use number_finding::is_faulty;
+use number_finding::is_clean;
 use plain_command::{command_length, write_command};
 use plain_head::{head_length, write_print_head, write_row_head};
 use plain_short::{write_code, write_escape, write_one};
@@ -32,15 +32,15 @@ fn write_order(k: Kind, v: Value, room: &mut [u8], at: usize) -> usize
     at + n
 }
 
-// A command with a value and no payload, unless it has one of the findings 1 to 6. One whose number was cut short was carried out.
+// A command with a value and no payload, unless it has a finding.
 fn write_valued(k: Kind, v: Value, f: Finding, room: &mut [u8], at: usize) -> usize
     requires { at ≤ 1099511627776 }
     ensures { (p row : List ℕ) → PutsShort room.old at (plain_command (Valued k v) p f row) room.new result }
 {
-    if is_faulty(f) {
-        at
-    } else {
+    if is_clean(f) {
         write_order(k, used_value(k, v), room, at)
+    } else {
+        at
     }
 }
 
@@ -124,12 +124,9 @@ pub fn write_item(s: &[u8], i: Item, f: Finding, row: &[u8], room: &mut [u8], at
         Item::Text(b) => write_one(b, room, at),
         Item::Code(b) => write_code(b, room, at),
         Item::Two(b) => write_escape(b, f, room, at),
-        Item::Command {
-            command,
-            cut: _,
-            from,
-            to,
-        } => write_whole(command, &s[from..to], f, row, room, at),
+        Item::Command { command, from, to } => {
+            write_whole(command, &s[from..to], f, row, room, at)
+        }
         Item::Broken(_) => at,
     }
 }

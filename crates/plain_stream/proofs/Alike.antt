@@ -1,7 +1,7 @@
 -- The plain stream hangs on no cursor: cores that differ in it, in the stack's places, the resolution, the graphics margin or whether the page is used
 -- give an item the same meaning, and differ in nothing else behind it. Assumes nothing.
 use mathlib.Core.Path.{◌≡◌, refl, sym, ap, ◌∙◌}
-use mathlib.Core.Bool.{Bool, true, false, cond, ◌&&◌}
+use mathlib.Core.Bool.{Bool, true, false, cond}
 use mathlib.Core.List.{List, [], ◌∷◌}
 use Prim.Native.Nat.{ℕ, ◌+◌}
 use lib.Dec.{eqb}
@@ -22,11 +22,11 @@ use Rattle.rules.specs.declared.Beside.{Beside}
 use Rattle.rules.specs.Measure.{origin, row_holds}
 use Rattle.rules.specs.States.{with_used, with_seed, to_x, to_y}
 use Rattle.rules.specs.Number.{whole_part}
-use Rattle.rules.specs.Commands.{use_of, used_value, uses_number}
+use Rattle.rules.specs.Commands.{use_of, used_value}
 use Rattle.rules.specs.Items.{Item, text, code, two, command, broken}
 use Rattle.rules.specs.Effects.{pushed, popped, started_at, row_height, effect, barred}
 use Rattle.rules.specs.Codes.{first_line, feeds_on_return, returns_on_feed, typed, typed_all, coded, escaped}
-use Rattle.rules.specs.Acts.{Act, type, control, escape, order, print, draw, drawn, next, next_all, bar, gate, mean_code, mean_two, mean_row, mean_command, passed_on, mean}
+use Rattle.rules.specs.Acts.{Act, type, control, escape, order, print, draw, drawn, next, next_all, bar, gate, mean_code, mean_two, mean_row, mean_command, mean}
 
 -- a core without its cursor, its stack's places, its resolution, its graphics margin and whether its page is used: all that an item's meaning looks at
 abbrev pub stripped : Core → Core
@@ -79,7 +79,7 @@ module _ (g : Measure) where
   mean_same (text b) c m = refl
   mean_same (code b) c m = refl
   mean_same (two b) c m = refl
-  mean_same (command k cut p) c m = ap (passed_on (cut && uses_number k)) (command_same k p c m)
+  mean_same (command k p) c m = command_same k p c m
   mean_same (broken f) c m = refl
 
   -- an item means the same in cores that are alike

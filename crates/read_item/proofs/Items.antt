@@ -1,12 +1,12 @@
 -- Laws of the reader's definitions, one for each way through the code. Assumes nothing.
-use mathlib.Core.Path.{◌≡◌, refl, sym, ap, ◌∙◌}
+use mathlib.Core.Path.{◌≡◌, refl, sym, ap, ap₂, ◌∙◌}
 use mathlib.Core.Bool.{Bool, true, false, cond, ◌&&◌}
 use mathlib.Core.List.{List, [], ◌∷◌}
 use Prim.Native.Nat.{ℕ, ◌+◌, ◌-◌, ◌≤◌, ◌<◌}
 use native.Mathlib.Omega.{arith}
 use native.Mathlib.Nat.{sub-zero}
 use lib.Dec.{leb, ltb}
-use lib.ListN.{length, take, drop, get_or, length-drop, length-take, drop_of_length-le}
+use lib.ListN.{length, take, drop, get_or, length-drop, length-take}
 use borrow.Author.Tests.{ne_eqb, le-leb, lt-leb}
 use Rattle.common.specs.Choice.{within}
 use Rattle.common.proofs.Choices.{within_under}
@@ -47,75 +47,70 @@ module _ (s : List ℕ) (at : ℕ) where
   broken_there h = let e : length s - length (get_or s at 0 ∷ drop (at + 1) s) ≡ at = rw length-drop (omega arith) in rw e
 
   -- a command with n bytes of payload
-  command_there : (k : Command) (low : Bool) (q : Sequence) (n : ℕ) → at ≤ length s → n ≤ length s - at
-      → record { item = found.Command k low at (at + n); sequence = q; next = at + n } ≡ up_to (length s) (reading (rule.command k low (take n (drop at s))) q (drop n (drop at s)))
-  command_there k low q n i h =
+  command_there : (k : Command) (q : Sequence) (n : ℕ) → at ≤ length s → n ≤ length s - at
+      → record { item = found.Command k at (at + n); sequence = q; next = at + n } ≡ up_to (length s) (reading (rule.command k (take n (drop at s))) q (drop n (drop at s)))
+  command_there k q n i h =
       let e : length s - length (drop n (drop at s)) ≡ at + n = rw (length-drop, length-drop) (omega arith) in
       let f : at + n - length (take n (drop at s)) ≡ at = rw (length-take, length-drop) (omega arith) in
       rw (e, f)
 
 -- a command with n bytes of payload, if there are as many
-abbrev given : ℕ → ℕ → ℕ → Value → Bool → Sequence → List ℕ → ℕ → Reading
-given f g l v low q s n = cond (leb n (length s)) (reading (rule.command (chosen f g l v) low (take n s)) q (drop n s)) ends_inside
+abbrev given : ℕ → ℕ → ℕ → Value → Sequence → List ℕ → ℕ → Reading
+given f g l v q s n = cond (leb n (length s)) (reading (rule.command (chosen f g l v) (take n s)) q (drop n s)) ends_inside
 
 -- a command takes the payload that it asks for, which may be none
-payload_asked : (f g l : ℕ) (v : Value) (low : Bool) (q : Sequence) (s : List ℕ) → given f g l v low q s (asked f g l v) ≡ payload f g l v low q s
+payload_asked : (f g l : ℕ) (v : Value) (q : Sequence) (s : List ℕ) → given f g l v q s (asked f g l v) ≡ payload f g l v q s
 unfolding payload
-payload_asked f g l v low q s = go (has_payload f g l)
+payload_asked f g l v q s = go (has_payload f g l)
   where
-    go : (t : Bool) → given f g l v low q s (cond t (count v) 0) ≡ cond t (given f g l v low q s (count v)) (reading (rule.command (chosen f g l v) low []) q s)
+    go : (t : Bool) → given f g l v q s (cond t (count v) 0) ≡ cond t (given f g l v q s (count v)) (reading (rule.command (chosen f g l v) []) q s)
     go true = refl
     go false = rw (le-leb 0 (length s) (omega arith))
 
-module _ (s : List ℕ) (at f g l : ℕ) (v : Value) (low : Bool) (q : Sequence) (n : ℕ) (i : at ≤ length s) (a : n ≡ asked f g l v) where
+module _ (s : List ℕ) (at f g l : ℕ) (v : Value) (q : Sequence) (n : ℕ) (i : at ≤ length s) (a : n ≡ asked f g l v) where
   -- the payload that the code asks for is the one of the rules
-  payload_given : given f g l v low q (drop at s) n ≡ payload f g l v low q (drop at s)
-  payload_given = ap (given f g l v low q (drop at s)) a ∙ payload_asked f g l v low q (drop at s)
+  payload_given : given f g l v q (drop at s) n ≡ payload f g l v q (drop at s)
+  payload_given = ap (given f g l v q (drop at s)) a ∙ payload_asked f g l v q (drop at s)
 
   -- the payload is there
   pub payload_there : (k : Command) → k ≡ chosen f g l v → n ≤ length s - at
-      → record { item = found.Command k low at (at + n); sequence = q; next = at + n } ≡ up_to (length s) (payload f g l v low q (drop at s))
-  payload_there k e j = command_there s at k low q n i j ∙ rw e (ap (up_to (length s)) (rw (length-drop, le-leb n (length s - at) j) at payload_given))
+      → record { item = found.Command k at (at + n); sequence = q; next = at + n } ≡ up_to (length s) (payload f g l v q (drop at s))
+  payload_there k e j = command_there s at k q n i j ∙ rw e (ap (up_to (length s)) (rw (length-drop, le-leb n (length s - at) j) at payload_given))
 
   -- the payload is short
-  pub payload_short : length s - at < n → ends_inside ≡ payload f g l v low q (drop at s)
+  pub payload_short : length s - at < n → ends_inside ≡ payload f g l v q (drop at s)
   payload_short j = rw (length-drop, lt-leb n (length s - at) j) at payload_given
 
 -- ---- what ends a command
 
 -- by how a byte ends it
-abbrev ended : ℕ → ℕ → Value → Bool → ℕ → List ℕ → Ending → Reading
-ended f g v low b s (Letter c q) = payload f g c v low q s
-ended f g v low b s NoLetter = cannot_stand (b ∷ s)
+abbrev ended : ℕ → ℕ → Value → ℕ → List ℕ → Ending → Reading
+ended f g v b s (Letter c q) = payload f g c v q s
+ended f g v b s NoLetter = cannot_stand (b ∷ s)
 
 -- the rules go by how the byte ends it
-letter_ended : (f g : ℕ) (v : Value) (low : Bool) (b : ℕ) (s : List ℕ) → ended f g v low b s (ending f g b) ≡ letter f g v low (b ∷ s)
+letter_ended : (f g : ℕ) (v : Value) (b : ℕ) (s : List ℕ) → ended f g v b s (ending f g b) ≡ letter f g v (b ∷ s)
 unfolding letter
-letter_ended f g v low b s = go (within 64 94 b) (within 96 126 b && ltb 0 g)
+letter_ended f g v b s = go (within 64 94 b) (within 96 126 b && ltb 0 g)
   where
-    go : (t u : Bool) → ended f g v low b s (cond t (Letter b Closed) (cond u (Letter (b - 32) (Open f g)) NoLetter))
-        ≡ cond t (payload f g b v low Closed s) (cond u (payload f g (b - 32) v low (Open f g) s) (cannot_stand (b ∷ s)))
+    go : (t u : Bool) → ended f g v b s (cond t (Letter b Closed) (cond u (Letter (b - 32) (Open f g)) NoLetter))
+        ≡ cond t (payload f g b v Closed s) (cond u (payload f g (b - 32) v (Open f g) s) (cannot_stand (b ∷ s)))
     go true u = refl
     go false true = refl
     go false false = refl
 
--- the stream ends before the letter
-pub letter_end : (s : List ℕ) (at f g : ℕ) (v : Value) (low : Bool) (r : ReadItem) → length s ≤ at → r ≡ up_to (length s) ends_inside → r ≡ up_to (length s) (letter f g v low (drop at s))
-unfolding letter
-letter_end s at f g v low r h e = rw (drop_of_length-le s h) e
-
-module _ (s : List ℕ) (at f g : ℕ) (v : Value) (low : Bool) (h : at < length s) (x : Ending) (e : x ≡ ending f g (get_or s at 0)) where
+module _ (s : List ℕ) (at f g : ℕ) (v : Value) (h : at < length s) (x : Ending) (e : x ≡ ending f g (get_or s at 0)) where
   -- the byte there, told apart, gives what the rules read
-  told_letter : ended f g v low (get_or s at 0) (drop (at + 1) s) x ≡ letter f g v low (drop at s)
-  told_letter = ap (ended f g v low (get_or s at 0) (drop (at + 1) s)) e ∙ letter_ended f g v low (get_or s at 0) (drop (at + 1) s) ∙ ap (letter f g v low) (sym (cut s at h))
+  told_letter : ended f g v (get_or s at 0) (drop (at + 1) s) x ≡ letter f g v (drop at s)
+  told_letter = ap (ended f g v (get_or s at 0) (drop (at + 1) s)) e ∙ letter_ended f g v (get_or s at 0) (drop (at + 1) s) ∙ ap (letter f g v) (sym (cut s at h))
 
   -- a letter
-  pub letter_there : (c : ℕ) (q : Sequence) (r : ReadItem) → x ≡ Letter c q → r ≡ up_to (length s) (payload f g c v low q (drop (at + 1) s)) → r ≡ up_to (length s) (letter f g v low (drop at s))
-  letter_there c q r d j = j ∙ ap (up_to (length s)) (ap (ended f g v low (get_or s at 0) (drop (at + 1) s)) (sym d) ∙ told_letter)
+  pub letter_there : (c : ℕ) (q : Sequence) (r : ReadItem) → x ≡ Letter c q → r ≡ up_to (length s) (payload f g c v q (drop (at + 1) s)) → r ≡ up_to (length s) (letter f g v (drop at s))
+  letter_there c q r d j = j ∙ ap (up_to (length s)) (ap (ended f g v (get_or s at 0) (drop (at + 1) s)) (sym d) ∙ told_letter)
 
   -- a byte that cannot stand there
-  pub letter_broken : x ≡ NoLetter → record { item = found.Broken CannotStand; sequence = Closed; next = at } ≡ up_to (length s) (letter f g v low (drop at s))
-  letter_broken d = broken_there s at h ∙ ap (up_to (length s)) (ap (ended f g v low (get_or s at 0) (drop (at + 1) s)) (sym d) ∙ told_letter)
+  pub letter_broken : x ≡ NoLetter → record { item = found.Broken CannotStand; sequence = Closed; next = at } ≡ up_to (length s) (letter f g v (drop at s))
+  letter_broken d = broken_there s at h ∙ ap (up_to (length s)) (ap (ended f g v (get_or s at 0) (drop (at + 1) s)) (sym d) ∙ told_letter)
 
 -- ---- one thing behind another
 
@@ -155,9 +150,9 @@ pub parameter_cut : (f g : ℕ) (s : List ℕ) (at : ℕ) → at < length s → 
 parameter_cut f g s at h = ap (parameter f g) (cut s at h)
 
 -- a value was read, and what ends it
-pub parameter_read : (s : List ℕ) (at f g : ℕ) (v : ValueAt) (r : ReadItem) → at ≤ length s → ReadAt s at v → r ≡ up_to (length s) (letter f g v.value v.cut (drop v.next s)) → r ≡ up_to (length s) (parameter f g (drop at s))
+pub parameter_read : (s : List ℕ) (at f g : ℕ) (v : ValueAt) (r : ReadItem) → at ≤ length s → ReadAt s at v → r ≡ up_to (length s) (letter f g v.value (drop v.next s)) → r ≡ up_to (length s) (parameter f g (drop at s))
 unfolding parameter
-parameter_read s at f g v r h a e = rw (← a.is, ← a.cut, ← a.left h) e
+parameter_read s at f g v r h a e = e ∙ ap (up_to (length s)) (ap₂ (letter f g) a.is (a.left h))
 
 -- a control code below space is no text
 pub text_low : (b : ℕ) → b < 32 → false ≡ is_text b

@@ -1,6 +1,6 @@
 -- Where an item lies: what is left stands at the next place, payload is a part of the stream, and both keep their bounds. Assumes nothing.
 use mathlib.Core.Path.{◌≡◌, refl, sym, ap, ◌∙◌}
-use mathlib.Core.Bool.{Bool, true, false, ◌&&◌}
+use mathlib.Core.Bool.{false, ◌&&◌}
 use mathlib.Core.List.{List, [], ◌∷◌, ◌++◌}
 use Prim.Native.Nat.{ℕ, ◌+◌, ◌-◌, ◌≤◌, ◌<◌}
 use native.Mathlib.Omega.{arith}
@@ -26,7 +26,7 @@ use Rattle.read_item.specs.declared.Item.TheVariants as found
 use Rattle.read_item.specs.declared.ReadItem.{ReadItem}
 use Rattle.read_item.specs.declared.Begun.{Begun}
 use Rattle.read_item.specs.declared.Begun.TheVariants as begun
-use Rattle.read_item.specs.Items.{Begins, item_to, read_to, up_to, read_at, item_in, from_of, to_of, held_size, HeldCut, size_in, CutIn, ItemAt}
+use Rattle.read_item.specs.Items.{Begins, item_to, read_to, up_to, read_at, item_in, from_of, to_of, held_size, size_in, ItemAt}
 
 -- ---- payload and what is left
 
@@ -35,7 +35,7 @@ abbrev payload_of : rule.Item → List ℕ
 payload_of (rule.text b) = []
 payload_of (rule.code b) = []
 payload_of (rule.two b) = []
-payload_of (rule.command k low p) = p
+payload_of (rule.command k p) = p
 payload_of (rule.broken f) = []
 
 -- payload and what is left are the end of what was read
@@ -43,23 +43,23 @@ abbrev Lies : List ℕ → Reading → Type 0
 Lies s r = Suffix (payload_of r.item ++ r.rest) s
 
 -- of a command with its payload
-payload_lies : (f g l : ℕ) (v : Value) (low : Bool) (q : Sequence) (s : List ℕ) → Lies s (payload f g l v low q s)
+payload_lies : (f g l : ℕ) (v : Value) (q : Sequence) (s : List ℕ) → Lies s (payload f g l v q s)
 unfolding payload
-payload_lies f g l v low q s =
+payload_lies f g l v q s =
     choice (Lies s) (has_payload f g l) (choice (Lies s) (leb (count v) (length s)) (rw take-append-drop here) (suffix_nil s)) here
 
 -- of what ends a command
-letter_lies : (f g : ℕ) (v : Value) (low : Bool) (s : List ℕ) → Lies s (letter f g v low s)
+letter_lies : (f g : ℕ) (v : Value) (s : List ℕ) → Lies s (letter f g v s)
 unfolding letter
-letter_lies f g v low [] = here
-letter_lies f g v low (b ∷ s) =
-    choice (Lies (b ∷ s)) (within 64 94 b) (there (payload_lies f g b v low Closed s))
-    (choice (Lies (b ∷ s)) (within 96 126 b && ltb 0 g) (there (payload_lies f g (b - 32) v low (Open f g) s)) here)
+letter_lies f g v [] = here
+letter_lies f g v (b ∷ s) =
+    choice (Lies (b ∷ s)) (within 64 94 b) (there (payload_lies f g b v Closed s))
+    (choice (Lies (b ∷ s)) (within 96 126 b && ltb 0 g) (there (payload_lies f g (b - 32) v (Open f g) s)) here)
 
 -- of a value and what ends it
 parameter_lies : (f g : ℕ) (s : List ℕ) → Lies s (parameter f g s)
 unfolding parameter
-parameter_lies f g s = suffix_trans (letter_lies f g (value s).value (value s).cut (value s).rest) (value_suffix s)
+parameter_lies f g s = suffix_trans (letter_lies f g (value s).value (value s).rest) (value_suffix s)
 
 -- behind the first byte
 group_lies : (f : ℕ) (s : List ℕ) → Lies s (group f s)
@@ -123,12 +123,12 @@ module _ (s : List ℕ) (at : ℕ) (q : Sequence) where
       go (rule.text b) e = refl
       go (rule.code b) e = refl
       go (rule.two b) e = refl
-      go (rule.command k low p) e = ap (rule.command k low) e
+      go (rule.command k p) e = ap (rule.command k) e
       go (rule.broken f) e = refl
 
   -- a command was found: the rules read it, and its payload is the part from a place up to another
-  pub read_command : (k : Command) (low : Bool) (from to : ℕ) → (read_at s at q).item ≡ found.Command k low from to → (read q (drop at s)).item ≡ rule.command k low (take (to - from) (drop from s))
-  read_command k low from to e = sym read_back ∙ ap (item_in s) e
+  pub read_command : (k : Command) (from to : ℕ) → (read_at s at q).item ≡ found.Command k from to → (read q (drop at s)).item ≡ rule.command k (take (to - from) (drop from s))
+  read_command k from to e = sym read_back ∙ ap (item_in s) e
 
 -- ---- bounds
 
@@ -145,13 +145,13 @@ read_bounded q [] = rw (read_nothing q) tt
 read_bounded q (b ∷ s) = (read_sane q (b ∷ s) (and_false_right (is_closed q) false refl)).bounded
 
 -- the value that a command holds is lowered
-held_low : (low : Bool) (k : Command) → HoldsLow low k → (held_size k ≤ 327670000) × (low ≡ true → HeldCut k)
+held_low : (k : Command) → HoldsLow k → held_size k ≤ 327670000
 unfolding HoldsLow
-held_low low (Valued k v) h = h
-held_low low (Method v) h = h
-held_low low (Print v) h = h
-held_low low (Row v) h = h
-held_low low Unknown h = (omega arith, λ e. tt)
+held_low (Valued k v) h = h
+held_low (Method v) h = h
+held_low (Print v) h = h
+held_low (Row v) h = h
+held_low Unknown h = omega arith
 
 -- the bounds of an item that ends at n
 record Fits (n : ℕ) (i : Item) : Type 0 where
@@ -159,16 +159,15 @@ record Fits (n : ℕ) (i : Item) : Type 0 where
   ended : to_of i ≤ n
   counted : to_of i ≤ from_of i + 32767
   low : size_in i ≤ 327670000
-  cut : CutIn i
 
 -- an item of the rules keeps them, wherever it ends
 item_fits : (n : ℕ) (x : rule.Item) → Readable x → Fits n (item_to n x)
 unfolding Readable
-item_fits n (rule.text b) h = record { ordered = omega arith; ended = omega arith; counted = omega arith; low = omega arith; cut = tt }
-item_fits n (rule.code b) h = record { ordered = omega arith; ended = omega arith; counted = omega arith; low = omega arith; cut = tt }
-item_fits n (rule.two b) h = record { ordered = omega arith; ended = omega arith; counted = omega arith; low = omega arith; cut = tt }
-item_fits n (rule.command k low p) h = let l = held_low low k h.0 in record { ordered = omega arith; ended = omega arith; counted = omega arith; low = l.0; cut = l.1 }
-item_fits n (rule.broken f) h = record { ordered = omega arith; ended = omega arith; counted = omega arith; low = omega arith; cut = tt }
+item_fits n (rule.text b) h = record { ordered = omega arith; ended = omega arith; counted = omega arith; low = omega arith }
+item_fits n (rule.code b) h = record { ordered = omega arith; ended = omega arith; counted = omega arith; low = omega arith }
+item_fits n (rule.two b) h = record { ordered = omega arith; ended = omega arith; counted = omega arith; low = omega arith }
+item_fits n (rule.command k p) h = record { ordered = omega arith; ended = omega arith; counted = omega arith; low = held_low k h.0 }
+item_fits n (rule.broken f) h = record { ordered = omega arith; ended = omega arith; counted = omega arith; low = omega arith }
 
 module _ (s : List ℕ) (at : ℕ) (q : Sequence) where
   -- the answer keeps its bounds
@@ -177,7 +176,7 @@ module _ (s : List ℕ) (at : ℕ) (q : Sequence) where
   bounds =
       let f = item_fits (read_at s at q).next (read q (drop at s)).item (read_bounded q (drop at s)) in
       let d = length-drop at s in
-      record { is = refl; forward = omega arith; inside = omega arith; ordered = f.ordered; ended = f.ended; counted = f.counted; low = f.low; cut = f.cut }
+      record { is = refl; forward = omega arith; inside = omega arith; ordered = f.ordered; ended = f.ended; counted = f.counted; low = f.low }
 
   -- and so does one that is equal to it
   item_is : (r : ReadItem) → r ≡ read_at s at q → ItemAt s at q r

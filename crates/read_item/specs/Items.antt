@@ -1,5 +1,5 @@
 -- An item of the rules, found at a place of the stream: payload is a part of it, from a place up to another.
-use Rattle.std.specs.Prelude.{◌≡◌, true, List, ℕ, ◌+◌, ◌-◌, ◌≤◌, max, length, take, drop}
+use Rattle.std.specs.Prelude.{◌≡◌, List, ℕ, ◌+◌, ◌-◌, ◌≤◌, max, length, take, drop}
 use Rattle.rules.specs.declared.Sequence.{Sequence}
 use Rattle.rules.specs.declared.Command.{Command}
 use Rattle.rules.specs.declared.Command.TheVariants.{Valued, Method, Print, Row, Unknown}
@@ -17,7 +17,7 @@ abbrev pub item_to : ℕ → rule.Item → Item
 item_to n (rule.text b) = found.Text b
 item_to n (rule.code b) = found.Code b
 item_to n (rule.two b) = found.Two b
-item_to n (rule.command k cut p) = found.Command k cut (n - length p) n
+item_to n (rule.command k p) = found.Command k (n - length p) n
 item_to n (rule.broken f) = found.Broken f
 
 -- what is read up to n
@@ -51,7 +51,7 @@ abbrev pub item_in : List ℕ → Item → rule.Item
 item_in s (found.Text b) = rule.text b
 item_in s (found.Code b) = rule.code b
 item_in s (found.Two b) = rule.two b
-item_in s (found.Command k cut from to) = rule.command k cut (take (to - from) (drop from s))
+item_in s (found.Command k from to) = rule.command k (take (to - from) (drop from s))
 item_in s (found.Broken f) = rule.broken f
 
 -- where a command's payload begins
@@ -59,7 +59,7 @@ abbrev pub from_of : Item → ℕ
 from_of (found.Text b) = 0
 from_of (found.Code b) = 0
 from_of (found.Two b) = 0
-from_of (found.Command k cut from to) = from
+from_of (found.Command k from to) = from
 from_of (found.Broken f) = 0
 
 -- where it ends
@@ -67,7 +67,7 @@ abbrev pub to_of : Item → ℕ
 to_of (found.Text b) = 0
 to_of (found.Code b) = 0
 to_of (found.Two b) = 0
-to_of (found.Command k cut from to) = to
+to_of (found.Command k from to) = to
 to_of (found.Broken f) = 0
 
 -- the size of the value that a command holds
@@ -78,29 +78,13 @@ held_size (Print v) = size_of v
 held_size (Row v) = size_of v
 held_size Unknown = 0
 
--- a value that was lowered has the size 32,767; one that is not held is not looked at
-abbrev pub HeldCut : Command → Type 0
-HeldCut (Valued k v) = size_of v ≡ 327670000
-HeldCut (Method v) = size_of v ≡ 327670000
-HeldCut (Print v) = size_of v ≡ 327670000
-HeldCut (Row v) = size_of v ≡ 327670000
-HeldCut Unknown = Unit {0}
-
 -- the size of the value of an item's command
 abbrev pub size_in : Item → ℕ
 size_in (found.Text b) = 0
 size_in (found.Code b) = 0
 size_in (found.Two b) = 0
-size_in (found.Command k cut from to) = held_size k
+size_in (found.Command k from to) = held_size k
 size_in (found.Broken f) = 0
-
--- where the size of an item's number was lowered, it is 32,767
-abbrev pub CutIn : Item → Type 0
-CutIn (found.Text b) = Unit {0}
-CutIn (found.Code b) = Unit {0}
-CutIn (found.Two b) = Unit {0}
-CutIn (found.Command k cut from to) = cut ≡ true → HeldCut k
-CutIn (found.Broken f) = Unit {0}
 
 -- the item at a place of the stream s, with the bounds that a caller needs
 pub record ItemAt (s : List ℕ) (at : ℕ) (q : Sequence) (r : ReadItem) : Type 0 where
@@ -118,4 +102,3 @@ pub record ItemAt (s : List ℕ) (at : ℕ) (q : Sequence) (r : ReadItem) : Type
   pub counted : to_of r.item ≤ from_of r.item + 32767
   -- "a size over 32,767 becomes 32,767"
   pub low : size_in r.item ≤ 327670000
-  pub cut : CutIn r.item

@@ -8,8 +8,7 @@ use read_command::choose;
 use read_letter::{Ending, asked_by, ending_of};
 use rules::{Command, Finding, Sequence, Value};
 
-// An item: text, a control code, a two-byte command, a command whose payload lies in the stream, or a broken piece. With a command stands
-// whether the size of its number was lowered.
+// An item: text, a control code, a two-byte command, a command whose payload lies in the stream, or a broken piece.
 #[derive(Drop)]
 pub enum Item {
     Text(u8),
@@ -17,7 +16,6 @@ pub enum Item {
     Two(u8),
     Command {
         command: Command,
-        cut: bool,
         from: usize,
         to: usize,
     },
@@ -58,11 +56,10 @@ fn payload_at(
     group: u8,
     letter: u8,
     v: Value,
-    cut: bool,
     q: Sequence,
 ) -> ReadItem
     requires { at ≤ length s.now }
-    ensures { result ≡ up_to (length s.now) (payload first group letter v cut q (drop at s.now)) }
+    ensures { result ≡ up_to (length s.now) (payload first group letter v q (drop at s.now)) }
 {
     let n = asked_by(first, group, letter, v);
     if s.len() - at < n {
@@ -73,7 +70,6 @@ fn payload_at(
     ReadItem {
         item: Item::Command {
             command,
-            cut,
             from: at,
             to,
         },
@@ -83,8 +79,8 @@ fn payload_at(
 }
 
 // What ends a command, at the place behind its value.
-fn letter_at(s: &[u8], at: usize, first: u8, group: u8, v: Value, cut: bool) -> ReadItem
-    ensures { result ≡ up_to (length s.now) (letter first group v cut (drop at s.now)) }
+fn letter_at(s: &[u8], at: usize, first: u8, group: u8, v: Value) -> ReadItem
+    ensures { result ≡ up_to (length s.now) (letter first group v (drop at s.now)) }
 {
     if s.len() <= at {
         return ends_inside(s);
@@ -97,7 +93,7 @@ fn letter_at(s: &[u8], at: usize, first: u8, group: u8, v: Value, cut: bool) -> 
             next: at,
         };
     };
-    payload_at(s, at + 1, first, group, capital, v, cut, behind)
+    payload_at(s, at + 1, first, group, capital, v, behind)
 }
 
 // A value and what ends it.
@@ -108,7 +104,7 @@ fn parameter_at(s: &[u8], at: usize, first: u8, group: u8) -> ReadItem
     let v = read_number::read_value(s, at);
     let value = v.value;
     let next = v.next;
-    letter_at(s, next, first, group, value, v.cut)
+    letter_at(s, next, first, group, value)
 }
 
 // Behind ESC and the first byte: a group or none, and then a value.

@@ -8,11 +8,11 @@ use native.Mathlib.Omega.{arith}
 use native.Mathlib.Nat.{mul-le-mul_right}
 use lib.Dec.{eqb}
 use lib.ListN.{length, drop, get_or, length-drop, drop_of_length-le}
-use borrow.Author.Tests.{eq-eqb, ne_eqb, lt-ltb, le-ltb}
+use borrow.Author.Tests.{eq-eqb, ne_eqb}
 use Rattle.common.proofs.Choices.{choice, le_or_lt, within_in, within_under, within_over}
 use Rattle.common.proofs.Places.{cut}
 use Rattle.rules.specs.declared.Value.TheVariants.{Absolute, Relative}
-use Rattle.rules.specs.Number.{Figures, figures, is_digit, digits, places, fraction, size, lowered, is_lowered, ValueRead, absolute, relative, value, size_of}
+use Rattle.rules.specs.Number.{Figures, figures, is_digit, digits, places, fraction, size, ValueRead, absolute, relative, value, size_of}
 use Rattle.read_number.specs.declared.ValueAt.{ValueAt}
 use Rattle.read_number.specs.declared.NumberAt.{NumberAt}
 use Rattle.read_number.specs.Answers.{ReadAt, Took, relative_at, absolute_at}
@@ -82,7 +82,7 @@ fraction_grow n (b ∷ s) =
     choice (λ (f : Figures). n * 10000 ≤ f.number) (eqb b 46) (places_grow 1000 (n * 10000) s) (omega arith)
 
 -- a point and digits behind a number held at 32,768
-fraction_held : (n : ℕ) (s : List ℕ) → min (fraction (min n 32768) s).number 327670001 ≡ min (fraction n s).number 327670001
+fraction_held : (n : ℕ) (s : List ℕ) → min (fraction (min n 32768) s).number 327670000 ≡ min (fraction n s).number 327670000
 fraction_held n s =
     ⊎_elim
     (λ h. let e : min n 32768 ≡ n = omega arith in rw e)
@@ -181,48 +181,48 @@ module _ (s : List ℕ) (at n sum weight i : ℕ) (inv : Placing s at n sum weig
       }
 
   -- what is left begins with no digit
-  placing_done : (r : ℕ) → r ≡ min sum 327670001 → places weight sum (drop i s) ≡ figures sum (drop i s)
-      → Took s at (places 1000 n (drop at s)) 327670001 (record { number = r; next = i })
+  placing_done : (r : ℕ) → r ≡ min sum 327670000 → places weight sum (drop i s) ≡ figures sum (drop i s)
+      → Took s at (places 1000 n (drop at s)) 327670000 (record { number = r; next = i })
   placing_done r e q =
       rw (inv.same, q) (record { is = e; left = refl; on = inv.on; inside = inv.inside })
 
   -- no digit follows
-  pub placing_stop : (r : ℕ) → r ≡ min sum 327670001 → i < length s → is_digit (get_or s i 0) ≡ false
-      → Took s at (places 1000 n (drop at s)) 327670001 (record { number = r; next = i })
+  pub placing_stop : (r : ℕ) → r ≡ min sum 327670000 → i < length s → is_digit (get_or s i 0) ≡ false
+      → Took s at (places 1000 n (drop at s)) 327670000 (record { number = r; next = i })
   placing_stop r e h t = placing_done r e (unfold places in rw (cut s i h, t))
 
   -- the end of the list
-  pub placing_end : (r : ℕ) → r ≡ min sum 327670001 → length s ≤ i
-      → Took s at (places 1000 n (drop at s)) 327670001 (record { number = r; next = i })
+  pub placing_end : (r : ℕ) → r ≡ min sum 327670000 → length s ≤ i
+      → Took s at (places 1000 n (drop at s)) 327670000 (record { number = r; next = i })
   placing_end r e h = placing_done r e (unfold places in rw (drop_of_length-le s h))
 
 module _ (s : List ℕ) (at : ℕ) where
   -- ---- the point
   -- a point, and digits behind it
-  pub fraction_point : (n : ℕ) {r : NumberAt} → at < length s → get_or s at 0 ≡ 46 → Took s (at + 1) (places 1000 (n * 10000) (drop (at + 1) s)) 327670001 r
-      → Took s at (fraction n (drop at s)) 327670001 r
+  pub fraction_point : (n : ℕ) {r : NumberAt} → at < length s → get_or s at 0 ≡ 46 → Took s (at + 1) (places 1000 (n * 10000) (drop (at + 1) s)) 327670000 r
+      → Took s at (fraction n (drop at s)) 327670000 r
   fraction_point n h b t =
       let q : fraction n (drop at s) ≡ places 1000 (n * 10000) (drop (at + 1) s) = unfold fraction in rw (cut s at h, eq-eqb _ 46 b) in
       rw q (record { is = t.is; left = t.left; on = let o = t.on in omega arith; inside = let o = t.inside in omega arith })
 
   -- no point
-  fraction_none : (n r : ℕ) → r ≡ min (n * 10000) 327670001 → fraction n (drop at s) ≡ figures (n * 10000) (drop at s)
-      → Took s at (fraction n (drop at s)) 327670001 (record { number = r; next = at })
+  fraction_none : (n r : ℕ) → r ≡ min (n * 10000) 327670000 → fraction n (drop at s) ≡ figures (n * 10000) (drop at s)
+      → Took s at (fraction n (drop at s)) 327670000 (record { number = r; next = at })
   fraction_none n r e q = rw q (record { is = e; left = refl; on = omega arith; inside = omega arith })
 
   -- another byte
-  pub fraction_other : (n r : ℕ) → at < length s → (get_or s at 0 ≡ 46 → ⊥) → r ≡ min (n * 10000) 327670001
-      → Took s at (fraction n (drop at s)) 327670001 (record { number = r; next = at })
+  pub fraction_other : (n r : ℕ) → at < length s → (get_or s at 0 ≡ 46 → ⊥) → r ≡ min (n * 10000) 327670000
+      → Took s at (fraction n (drop at s)) 327670000 (record { number = r; next = at })
   fraction_other n r h b e = fraction_none n r e (unfold fraction in rw (cut s at h, ne_eqb _ 46 b))
 
   -- the end of the list
-  pub fraction_end : (n r : ℕ) → length s ≤ at → r ≡ min (n * 10000) 327670001
-      → Took s at (fraction n (drop at s)) 327670001 (record { number = r; next = at })
+  pub fraction_end : (n r : ℕ) → length s ≤ at → r ≡ min (n * 10000) 327670000
+      → Took s at (fraction n (drop at s)) 327670000 (record { number = r; next = at })
   fraction_end n r h e = fraction_none n r e (unfold fraction in rw (drop_of_length-le s h))
 
   -- ---- the size: its whole number may be held at 32,768
-  pub size_took : {d r : NumberAt} → Took s at (digits 0 (drop at s)) 32768 d → Took s d.next (fraction d.number (drop d.next s)) 327670001 r
-      → Took s at (size (drop at s)) 327670001 r
+  pub size_took : {d r : NumberAt} → Took s at (digits 0 (drop at s)) 32768 d → Took s d.next (fraction d.number (drop d.next s)) 327670000 r
+      → Took s at (size (drop at s)) 327670000 r
   unfolding size
   size_took {d} {r} p q =
       let f : Figures = digits 0 (drop at s) in
@@ -234,23 +234,13 @@ module _ (s : List ℕ) (at : ℕ) where
       }
 
   -- ---- the value
-  -- a size held at one ten-thousandth over 32,767 is lowered to the same
-  held_low : (n k : ℕ) → n ≡ min k 327670001 → lowered n ≡ lowered k
-  held_low n k e = omega arith
-
-  -- and if one is over 32,767 so is the other
-  held_cut : (n k : ℕ) → n ≡ min k 327670001 → is_lowered n ≡ is_lowered k
-  held_cut n k e =
-      ⊎_elim (λ h. rw (le-ltb 327670000 n (omega arith), le-ltb 327670000 k h)) (λ h. rw (lt-ltb 327670000 n (omega arith), lt-ltb 327670000 k h)) (le_or_lt k 327670000)
-
   -- what the rules read, and the place where they leave off
-  read_as : {r : ValueAt} (w : ValueRead) → value (drop at s) ≡ w → r.value ≡ w.value → r.cut ≡ w.cut → drop r.next s ≡ w.rest
+  read_as : {r : ValueAt} (w : ValueRead) → value (drop at s) ≡ w → r.value ≡ w.value → drop r.next s ≡ w.rest
       → at ≤ r.next → r.next ≤ max at (length s) → size_of r.value ≤ 327670000 → ReadAt s at r
-  read_as {r} w e v o l on inside small =
+  read_as {r} w e v l on inside small =
       let k : drop r.next s ≡ (value (drop at s)).rest = rw e l in
       record {
         is = rw e v;
-        cut = rw e o;
         next = omega (arith, length-drop at s, length-drop r.next s, ap length k);
         left = λ h. k;
         on = on;
@@ -258,14 +248,14 @@ module _ (s : List ℕ) (at : ℕ) where
         small = small;
       }
 
-  module _ {n : NumberAt} {r : ValueAt} (h : at < length s) (t : Took s (at + 1) (size (drop (at + 1) s)) 327670001 n) where
+  module _ {n : NumberAt} {r : ValueAt} (h : at < length s) (t : Took s (at + 1) (size (drop (at + 1) s)) 327670000 n) where
     -- a sign, and a size behind it
     signed : (negative : Bool) → r ≡ relative_at negative n → value (drop at s) ≡ relative negative (size (drop (at + 1) s)) → ReadAt s at r
     unfolding relative
     signed negative f e =
         rw f
-        (read_as (relative negative (size (drop (at + 1) s))) e (ap (Relative negative) (held_low _ _ t.is)) (held_cut _ _ t.is) t.left
-        (let o = t.on in omega arith) (let o = t.inside in omega arith) (omega arith))
+        (read_as (relative negative (size (drop (at + 1) s))) e (ap (Relative negative) t.is) t.left
+        (let o = t.on in omega arith) (let o = t.inside in omega arith) (let o = t.is in omega arith))
 
     -- a plus
     pub value_plus : get_or s at 0 ≡ 43 → r ≡ relative_at false n → ReadAt s at r
@@ -275,12 +265,12 @@ module _ (s : List ℕ) (at : ℕ) where
     pub value_minus : (get_or s at 0 ≡ 43 → ⊥) → get_or s at 0 ≡ 45 → r ≡ relative_at true n → ReadAt s at r
     value_minus a b f = signed true f (unfold value in rw (cut s at h, ne_eqb _ 43 a, eq-eqb _ 45 b))
 
-  module _ {n : NumberAt} {r : ValueAt} (t : Took s at (size (drop at s)) 327670001 n) (f : r ≡ absolute_at n) where
+  module _ {n : NumberAt} {r : ValueAt} (t : Took s at (size (drop at s)) 327670000 n) (f : r ≡ absolute_at n) where
     -- a size alone
     unsigned : value (drop at s) ≡ absolute (size (drop at s)) → ReadAt s at r
     unfolding absolute
     unsigned e =
-        rw f (read_as (absolute (size (drop at s))) e (ap Absolute (held_low _ _ t.is)) (held_cut _ _ t.is) t.left t.on t.inside (omega arith))
+        rw f (read_as (absolute (size (drop at s))) e (ap Absolute t.is) t.left t.on t.inside (let o = t.is in omega arith))
 
     -- no sign
     pub value_none : at < length s → (get_or s at 0 ≡ 43 → ⊥) → (get_or s at 0 ≡ 45 → ⊥) → ReadAt s at r

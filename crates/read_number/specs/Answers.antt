@@ -1,7 +1,7 @@
 -- What the functions of this crate give.
 use Rattle.std.specs.Prelude.{◌≡◌, Bool, List, ℕ, ◌+◌, ◌-◌, ◌≤◌, min, max, length, drop}
 use Rattle.rules.specs.declared.Value.TheVariants.{Absolute, Relative}
-use Rattle.rules.specs.Number.{Figures, lowered, is_lowered, value, size_of}
+use Rattle.rules.specs.Number.{Figures, value, size_of}
 use Rattle.read_number.specs.declared.ValueAt.{ValueAt}
 use Rattle.read_number.specs.declared.NumberAt.{NumberAt}
 
@@ -9,8 +9,6 @@ use Rattle.read_number.specs.declared.NumberAt.{NumberAt}
 pub record ReadAt (s : List ℕ) (at : ℕ) (r : ValueAt) : Type 0 where
   -- it is the value that the rules read there
   pub is : r.value ≡ (value (drop at s)).value
-  -- and so is whether its size was lowered
-  pub cut : r.cut ≡ (value (drop at s)).cut
   -- the place behind it is as many bytes on as the rules take
   pub next : r.next ≡ at + (length (drop at s) - length (value (drop at s)).rest)
   -- there stands what the rules leave, so that a reader can go on
@@ -35,8 +33,8 @@ pub record Took (s : List ℕ) (at : ℕ) (want : Figures) (top : ℕ) (r : Numb
 
 -- a size with a sign before it
 abbrev pub relative_at : Bool → NumberAt → ValueAt
-relative_at negative n = record { value = Relative negative (lowered n.number); cut = is_lowered n.number; next = n.next }
+relative_at negative n = record { value = Relative negative n.number; next = n.next }
 
 -- a size with no sign
 abbrev pub absolute_at : NumberAt → ValueAt
-absolute_at n = record { value = Absolute (lowered n.number); cut = is_lowered n.number; next = n.next }
+absolute_at n = record { value = Absolute n.number; next = n.next }

@@ -6,11 +6,10 @@ ghost use Rattle.read_number.specs.Answers.{Took, relative_at, absolute_at, Read
 
 use rules::Value;
 
-// A value, whether its size was lowered, and the place behind it.
+// A value, and the place behind it.
 #[derive(Drop)]
 pub struct ValueAt {
     pub value: Value,
-    pub cut: bool,
     pub next: usize,
 }
 
@@ -57,13 +56,6 @@ fn one_place(n: u32, weight: u32, b: u8) -> u32
     n + (b - 48) as u32 * weight
 }
 
-// A size that is no more than one ten-thousandth over 32,767: how far it is over does not matter.
-fn hold(n: u32) -> u32
-    ensures { result ≡ min n 327670001 }
-{
-    if n < 327670001 { n } else { 327670001 }
-}
-
 // A size over 32,767 becomes 32,767.
 fn lower(n: u32) -> u32
     ensures { result ≡ min n 327670000 }
@@ -74,7 +66,7 @@ fn lower(n: u32) -> u32
 // The size n with the digits at a place behind its point; from the fifth on they weigh nothing.
 fn read_places(s: &[u8], at: usize, n: u32) -> NumberAt
     requires { n ≤ 327680000 }
-    ensures { Took s.now at (places 1000 n (drop at s.now)) 327670001 result }
+    ensures { Took s.now at (places 1000 n (drop at s.now)) 327670000 result }
 {
     let mut sum = n;
     let mut weight: u32 = 1000;
@@ -91,7 +83,7 @@ fn read_places(s: &[u8], at: usize, n: u32) -> NumberAt
         }
     }
     NumberAt {
-        number: hold(sum),
+        number: lower(sum),
         next: i,
     }
 }
@@ -99,7 +91,7 @@ fn read_places(s: &[u8], at: usize, n: u32) -> NumberAt
 // The whole number n as a size, with the point and digits at a place, if there is a point.
 fn read_fraction(s: &[u8], at: usize, n: u32) -> NumberAt
     requires { n ≤ 32768 }
-    ensures { Took s.now at (fraction n (drop at s.now)) 327670001 result }
+    ensures { Took s.now at (fraction n (drop at s.now)) 327670000 result }
 {
     if at < s.len() {
         let b = s[at];
@@ -108,14 +100,14 @@ fn read_fraction(s: &[u8], at: usize, n: u32) -> NumberAt
         }
     }
     NumberAt {
-        number: hold(n * 10000),
+        number: lower(n * 10000),
         next: at,
     }
 }
 
 // The size at a place: digits, an optional point and digits.
 fn read_size(s: &[u8], at: usize) -> NumberAt
-    ensures { Took s.now at (size (drop at s.now)) 327670001 result }
+    ensures { Took s.now at (size (drop at s.now)) 327670000 result }
 {
     let whole = read_digits(s, at);
     read_fraction(s, whole.next, whole.number)
@@ -125,10 +117,9 @@ fn read_size(s: &[u8], at: usize) -> NumberAt
 fn relative(negative: bool, n: NumberAt) -> ValueAt
     ensures { result ≡ relative_at negative n }
 {
-    let size = lower(n.number);
+    let size = n.number;
     ValueAt {
         value: Value::Relative { negative, size },
-        cut: 327670000 < n.number,
         next: n.next,
     }
 }
@@ -138,8 +129,7 @@ fn absolute(n: NumberAt) -> ValueAt
     ensures { result ≡ absolute_at n }
 {
     ValueAt {
-        value: Value::Absolute(lower(n.number)),
-        cut: 327670000 < n.number,
+        value: Value::Absolute(n.number),
         next: n.next,
     }
 }

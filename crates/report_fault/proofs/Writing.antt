@@ -7,7 +7,7 @@ use native.Mathlib.Omega.{arith}
 use lib.ListN.{length}
 use Rattle.common.specs.Stores.{Wrote}
 use Rattle.rules.specs.declared.Finding.{Finding}
-use Rattle.rules.specs.declared.Finding.TheVariants.{Nothing, EndsInside, CannotStand, NotCarried, NotAllowed, StackLimit, NotNow, DamagedRow, CutShort}
+use Rattle.rules.specs.declared.Finding.TheVariants.{Nothing, EndsInside, CannotStand, NotCarried, NotAllowed, StackLimit, NotNow, DamagedRow}
 use Rattle.rules.specs.declared.Refusal.{Refusal}
 use Rattle.rules.specs.Findings.{finding_number, is_clean, refusal_number}
 use Rattle.rules.specs.Report.{fields, line, FAULT, REFUSED, fault, refused_line}
@@ -24,7 +24,6 @@ number_clean NotAllowed e = absurd (omega arith)
 number_clean StackLimit e = absurd (omega arith)
 number_clean NotNow e = absurd (omega arith)
 number_clean DamagedRow e = absurd (omega arith)
-number_clean CutShort e = absurd (omega arith)
 
 -- any other number is that of a finding
 pub number_found : (f : Finding) → (finding_number f ≡ 0 → ⊥) → is_clean f ≡ false
@@ -36,7 +35,6 @@ number_found NotAllowed e = refl
 number_found StackLimit e = refl
 number_found NotNow e = refl
 number_found DamagedRow e = refl
-number_found CutShort e = refl
 
 -- no finding: no line
 pub wrote_clean : {l : List ℕ} {at r : ℕ} (place : ℕ) (f : Finding) (n : ℕ) → n ≡ finding_number f → n ≡ 0 → r ≡ min at (length l) → Wrote l at (fault place f []) l r

@@ -12,7 +12,7 @@ use Rattle.common.specs.Bits.{ones_all}
 use Rattle.common.proofs.Choices.{choice, choice_by}
 use Rattle.rules.specs.declared.Measure.{Measure}
 use Rattle.rules.specs.declared.Finding.{Finding}
-use Rattle.rules.specs.declared.Finding.TheVariants.{Nothing, EndsInside, CannotStand, NotCarried, NotAllowed, StackLimit, NotNow, DamagedRow, CutShort}
+use Rattle.rules.specs.declared.Finding.TheVariants.{Nothing, EndsInside, CannotStand, NotCarried, NotAllowed, StackLimit, NotNow, DamagedRow}
 use Rattle.rules.specs.declared.Refusal.{Refusal}
 use Rattle.rules.specs.declared.Refusal.TheVariants.{StreamLength}
 use Rattle.rules.specs.declared.State.{State}
@@ -70,7 +70,6 @@ one_digit_lem NotAllowed = omega arith
 one_digit_lem StackLimit = omega arith
 one_digit_lem NotNow = omega arith
 one_digit_lem DamagedRow = omega arith
-one_digit_lem CutShort = omega arith
 
 -- a place within the limit has five digits at most
 fault_length : (at : ℕ) (f : Finding) (s : List ℕ) → at ≤ 65536 → length (fault at f s) ≤ 14 + length s

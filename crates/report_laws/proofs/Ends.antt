@@ -1,7 +1,7 @@
 -- Which items end a page: none with a finding, and none of an open sequence. Assumes nothing.
 use mathlib.Core.Path.{◌≡◌, refl, ap, sym, ◌∙◌}
 use mathlib.Core.List.{List, [], ◌∷◌}
-use mathlib.Core.Bool.{Bool, false, ◌&&◌, true≢false}
+use mathlib.Core.Bool.{false, ◌&&◌, true≢false}
 use lib.ListN.{length, take}
 use Prim.Native.Nat.{ℕ, suc, ◌+◌, ◌*◌, ◌-◌, ◌≤◌}
 use native.Mathlib.Omega.{arith}
@@ -53,7 +53,28 @@ module _ (g : Measure) where
       (choice Apart (eqb b (escape_byte ClearMargins)) (gate_apart (escape ClearMargins) c m)
       (choice Apart (eqb b (escape_byte HalfLine)) (gate_apart (escape HalfLine) c m) (λ e d p. refl)))
 
-  -- ---- no command ends a page, whatever its finding
+  command_apart : (k : Command) (p : List ℕ) (c : Core) (m : Beside) → Apart (mean_command g k p c m)
+  unfolding mean_command mean_row Apart show_all show ends_page
+  command_apart (Valued k v) p c m = choice Apart (is_negative (use_of k) v) (λ e d q. refl) (gate_apart (order k (used_value (use_of k) v)) c m)
+  command_apart (Method v) p c m = choice Apart (is_negative whole v) (λ e d q. refl) (choice Apart (leb (whole_part v) 3) (λ e d q. refl) (λ e d q. refl))
+  command_apart (Print v) p c m = choice Apart (is_negative whole v) (λ e d q. refl) (gate_apart (print p) c m)
+  command_apart (Row v) p c m = choice Apart (is_negative whole v) (λ e d q. refl) (λ e d q. refl)
+  command_apart Unknown p c m = λ e d q. refl
+
+  mean_apart : (i : Item) (c : Core) (m : Beside) → Apart (mean g i c m)
+  unfolding mean Apart show_all
+  mean_apart (text b) c m = gate_apart (type b) c m
+  mean_apart (code b) c m = code_apart b c m
+  mean_apart (two b) c m = two_apart b c m
+  mean_apart (command k p) c m = command_apart k p c m
+  mean_apart (broken f) c m = λ e d p. refl
+
+  -- an item with a finding hands no page over
+  pub step_apart : (t : State) (s p : List ℕ) → is_clean (step g t s).done.finding ≡ false → (show_all g (step g t s).done.acts (world t.core p [])).handed ≡ []
+  unfolding step Apart
+  step_apart t s p e = mean_apart (read t.sequence s).item t.core t.beside e t.core p
+
+  -- ---- an open sequence has commands and broken pieces alone
   -- a meaning that hands no page over
   Quiet : Meaning → Type 0
   Quiet o = (c : Core) (p : List ℕ) → (show_all g o.acts (world c p [])).handed ≡ []
@@ -70,41 +91,27 @@ module _ (g : Measure) where
   command_quiet (Row v) s c m = choice Quiet (is_negative whole v) (λ d p. refl) (λ d p. refl)
   command_quiet Unknown s c m = λ d p. refl
 
-  mean_apart : (i : Item) (c : Core) (m : Beside) → Apart (mean g i c m)
-  unfolding mean Apart Quiet show_all
-  mean_apart (text b) c m = gate_apart (type b) c m
-  mean_apart (code b) c m = code_apart b c m
-  mean_apart (two b) c m = two_apart b c m
-  mean_apart (command k cut p) c m = λ e. command_quiet k p c m
-  mean_apart (broken f) c m = λ e d p. refl
-
-  -- an item with a finding hands no page over
-  pub step_apart : (t : State) (s p : List ℕ) → is_clean (step g t s).done.finding ≡ false → (show_all g (step g t s).done.acts (world t.core p [])).handed ≡ []
-  unfolding step Apart
-  step_apart t s p e = mean_apart (read t.sequence s).item t.core t.beside e t.core p
-
-  -- ---- an open sequence has commands and broken pieces alone
   -- an item that hands no page over, whatever the state
   Still : Reading → Type 0
   Still r = (c : Core) (m : Beside) → Quiet (mean g r.item c m)
 
-  payload_still : (f h l : ℕ) (v : Value) (cut : Bool) (q : Sequence) (s : List ℕ) → Still (payload f h l v cut q s)
+  payload_still : (f h l : ℕ) (v : Value) (q : Sequence) (s : List ℕ) → Still (payload f h l v q s)
   unfolding payload Still mean Quiet show_all
-  payload_still f h l v cut q s =
+  payload_still f h l v q s =
       choice Still (has_payload f h l)
       (choice Still (leb (count v) (length s)) (λ c m. command_quiet (chosen f h l v) (take (count v) s) c m) (λ c m d p. refl))
       (λ c m. command_quiet (chosen f h l v) [] c m)
 
-  letter_still : (f h : ℕ) (v : Value) (cut : Bool) (s : List ℕ) → Still (letter f h v cut s)
+  letter_still : (f h : ℕ) (v : Value) (s : List ℕ) → Still (letter f h v s)
   unfolding letter Still mean Quiet show_all
-  letter_still f h v cut [] = λ c m d p. refl
-  letter_still f h v cut (b ∷ s) =
-      choice Still (within 64 94 b) (payload_still f h b v cut Closed s)
-      (choice Still (within 96 126 b && ltb 0 h) (payload_still f h (b - 32) v cut (Open f h) s) (λ c m d p. refl))
+  letter_still f h v [] = λ c m d p. refl
+  letter_still f h v (b ∷ s) =
+      choice Still (within 64 94 b) (payload_still f h b v Closed s)
+      (choice Still (within 96 126 b && ltb 0 h) (payload_still f h (b - 32) v (Open f h) s) (λ c m d p. refl))
 
   open_still : (f h : ℕ) (s : List ℕ) → Still (read (Open f h) s)
   unfolding read parameter
-  open_still f h s = letter_still f h (value s).value (value s).cut (value s).rest
+  open_still f h s = letter_still f h (value s).value (value s).rest
 
   -- an item that ends a page takes a byte: it lowers what is left by two
   pub step_two : (t : State) (s p : List ℕ) (d : List ℕ) (ds : List (List ℕ)) → over t s ≡ false → (show_all g (step g t s).done.acts (world t.core p [])).handed ≡ d ∷ ds

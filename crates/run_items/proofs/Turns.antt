@@ -15,7 +15,7 @@ use Rattle.rules.specs.declared.Measure.{Measure}
 use Rattle.rules.specs.declared.Sequence.{Sequence}
 use Rattle.rules.specs.declared.Sequence.TheVariants.{Closed, Open}
 use Rattle.rules.specs.declared.Finding.{Finding}
-use Rattle.rules.specs.declared.Finding.TheVariants.{Nothing}
+use Rattle.rules.specs.declared.Finding.TheVariants.{Nothing, NotCarried, NotAllowed, EndsInside, CannotStand, StackLimit, NotNow, DamagedRow}
 use Rattle.rules.specs.declared.Verdict.TheVariants.{Carried}
 use Rattle.rules.specs.declared.Core.{Core}
 use Rattle.rules.specs.declared.Beside.{Beside}
@@ -44,7 +44,7 @@ use Rattle.rules.specs.Measure.{blank, origin}
 use Rattle.run_items.proofs.Blank.{Undrawn, page_none, blank_goes, blank_behind}
 use Rattle.run_items.specs.Turns.{Taken, text_next, shown_by, ItemDone, stop_of, RunsOn}
 use Rattle.theorems.specs.Facts.{Fits, Shaped, SoundState}
-use Rattle.theorems.proofs.Streams.{clean_nothing, step_shaped}
+use Rattle.theorems.proofs.Streams.{step_shaped}
 use Rattle.theorems.proofs.Sound.{step_sound}
 
 abbrev pub taken_of : State → ℕ → Finding → Bool → Taken
@@ -121,11 +121,21 @@ quiet_first = record { finding = refl; found = refl; began = refl; ended = refl 
 pub quiet_goes : (y : Bool) (f : Finding) (n : ℕ) (b : Spot) (t : Bool) → y ≡ (is_clean f && not t) → y ≡ true → n ≡ 0 → b ≡ origin → Quiet f n b t
 quiet_goes y f n b t j k z w =
     let q = and_true (is_clean f) (not t) (sym j ∙ k) in
-    record { finding = clean_nothing f q.0; found = z; began = w; ended = off t q.1 }
+    record { finding = clean f q.0; found = z; began = w; ended = off t q.1 }
   where
     off : (b : Bool) → not b ≡ true → b ≡ false
     off true e = absurd (false≢true e)
     off false e = refl
+
+    clean : (x : Finding) → is_clean x ≡ true → x ≡ Nothing
+    clean Nothing e = refl
+    clean EndsInside e = absurd (false≢true e)
+    clean CannotStand e = absurd (false≢true e)
+    clean NotCarried e = absurd (false≢true e)
+    clean NotAllowed e = absurd (false≢true e)
+    clean StackLimit e = absurd (false≢true e)
+    clean NotNow e = absurd (false≢true e)
+    clean DamagedRow e = absurd (false≢true e)
 
 -- a run is under way: `done` items are done; what is left to do leads to the outcome; the state is sound; nothing is drawn yet where the page is
 -- unused, which was `first`
@@ -258,7 +268,6 @@ text_at s at l h =
       ended = omega arith;
       counted = omega arith;
       low = omega arith;
-      cut = tt;
     }
 
 -- what it does to a pen: the cursor moves, the page is used or not

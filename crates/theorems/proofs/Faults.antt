@@ -1,4 +1,4 @@
--- What an item with a finding does: nothing, for a damaged row a row of zeros, or its act where a number was cut short. Assumes nothing.
+-- What an item with a finding does: nothing, or for a damaged row a row of zeros. Assumes nothing.
 use mathlib.Core.Path.{◌≡◌, refl, ap, sym, ◌∙◌}
 use Prim.Native.Nat.{ℕ, ◌-◌}
 use native.Mathlib.Omega.{arith}
@@ -6,7 +6,6 @@ use mathlib.Core.List.{List, [], ◌∷◌}
 use mathlib.Core.Bool.{Bool, true, false, cond, not, ◌&&◌, false≢true, true≢false}
 use lib.ListN.{length, replicate}
 use lib.Dec.{eqb, leb, ltb}
-use borrow.Author.Tests.{lt-leb}
 use Rattle.common.specs.Choice.{within, one_of}
 use Rattle.common.specs.Lists.{is_nil}
 use Rattle.common.proofs.Choices.{choice, choice_by}
@@ -21,26 +20,24 @@ use Rattle.rules.specs.declared.Escape.TheVariants.{Reset, ClearMargins, HalfLin
 use Rattle.rules.specs.declared.Sequence.{Sequence}
 use Rattle.rules.specs.declared.Sequence.TheVariants.{Closed, Open}
 use Rattle.rules.specs.declared.Finding.{Finding}
-use Rattle.rules.specs.declared.Finding.TheVariants.{Nothing, EndsInside, CannotStand, NotCarried, NotAllowed, StackLimit, NotNow, DamagedRow, CutShort}
+use Rattle.rules.specs.declared.Finding.TheVariants.{Nothing, EndsInside, CannotStand, NotCarried, NotAllowed, StackLimit, NotNow, DamagedRow}
 use Rattle.rules.specs.declared.Core.{Core}
 use Rattle.rules.specs.declared.Beside.{Beside}
 use Rattle.rules.specs.declared.State.{State}
 use Rattle.rules.specs.Measure.{LH, stack_holds}
 use Rattle.rules.specs.Sound.{resolutions}
-use Rattle.rules.specs.States.{beside_of, state_of}
-use Rattle.rules.specs.Findings.{is_clean, is_faulty}
+use Rattle.rules.specs.States.{state_of}
+use Rattle.rules.specs.Findings.{is_clean}
 use Rattle.rules.specs.Number.{size_of, whole_part, value, count}
-use Rattle.rules.specs.Commands.{whole, use_of, used_value, uses_number, is_negative}
+use Rattle.rules.specs.Commands.{whole, use_of, used_value, is_negative}
 use Rattle.rules.specs.Codes.{code_byte, escape_byte}
 use Rattle.rules.specs.Effects.{new_left, new_right, new_top, line_rates, barred}
 use Rattle.rules.specs.Items.{Item, text, code, two, command, broken, Reading, has_payload, payload, letter, parameter, group, behind_escape, is_text, read}
 use Rattle.rules.specs.Rows.{decoded}
-use Rattle.rules.specs.Acts.{Act, type, control, escape, order, print, draw, next_all, next, beside_after, bar, gate, seed_now, Meaning, meaning, nothing_done, mean_code, mean_two, mean_row, mean_command, cut_finding, passed_on, mean, done_of, Step, step_of, step, over}
-use Rattle.theorems.specs.Statements.{NothingDone, RowOfZeros, StillDone, FindingsTable}
+use Rattle.rules.specs.Acts.{Act, type, control, escape, order, print, draw, next_all, next, bar, gate, seed_now, Meaning, nothing_done, mean_code, mean_two, mean_row, mean_command, mean, done_of, Step, step_of, step}
+use Rattle.theorems.specs.Statements.{is_faulty, NothingDone, RowOfZeros, FindingsTable}
 use Rattle.theorems.proofs.Lengths.{damaged_zeros}
 use Rattle.theorems.proofs.Suffixes.{step_rest, step_took}
-use Rattle.theorems.proofs.Reading.{HoldsLow, Readable, read_sane}
-use Rattle.theorems.proofs.Streams.{clean_nothing}
 
 -- ---- a broken piece: finding 1 leaves nothing, finding 2 the byte that can't stand and what is behind it; both close the sequence
 unfoldable Leaving : Finding → Sequence → List ℕ → Type 0
@@ -52,32 +49,31 @@ Leaving NotAllowed q s = ⊥
 Leaving StackLimit q s = ⊥
 Leaving NotNow q s = ⊥
 Leaving DamagedRow q s = ⊥
-Leaving CutShort q s = ⊥
 
 unfoldable Breaks : Item → Sequence → List ℕ → Type 0
 Breaks (text b) q s = Unit {0}
 Breaks (code b) q s = Unit {0}
 Breaks (two b) q s = Unit {0}
-Breaks (command k cut p) q s = Unit {0}
+Breaks (command k p) q s = Unit {0}
 Breaks (broken f) q s = Leaving f q s
 
 abbrev Rightly : Reading → Type 0
 Rightly r = Breaks r.item r.sequence r.rest
 
-payload_rightly : (f g l : ℕ) (v : Value) (cut : Bool) (q : Sequence) (s : List ℕ) → Rightly (payload f g l v cut q s)
+payload_rightly : (f g l : ℕ) (v : Value) (q : Sequence) (s : List ℕ) → Rightly (payload f g l v q s)
 unfolding payload Breaks Leaving
-payload_rightly f g l v cut q s = choice Rightly (has_payload f g l) (choice Rightly (leb (count v) (length s)) tt (refl, refl)) tt
+payload_rightly f g l v q s = choice Rightly (has_payload f g l) (choice Rightly (leb (count v) (length s)) tt (refl, refl)) tt
 
-letter_rightly : (f g : ℕ) (v : Value) (cut : Bool) (s : List ℕ) → Rightly (letter f g v cut s)
+letter_rightly : (f g : ℕ) (v : Value) (s : List ℕ) → Rightly (letter f g v s)
 unfolding letter Breaks Leaving
-letter_rightly f g v cut [] = (refl, refl)
-letter_rightly f g v cut (b ∷ s) =
-    choice Rightly (within 64 94 b) (payload_rightly f g b v cut Closed s)
-    (choice Rightly (within 96 126 b && ltb 0 g) (payload_rightly f g (b - 32) v cut (Open f g) s) (refl, refl))
+letter_rightly f g v [] = (refl, refl)
+letter_rightly f g v (b ∷ s) =
+    choice Rightly (within 64 94 b) (payload_rightly f g b v Closed s)
+    (choice Rightly (within 96 126 b && ltb 0 g) (payload_rightly f g (b - 32) v (Open f g) s) (refl, refl))
 
 parameter_rightly : (f g : ℕ) (s : List ℕ) → Rightly (parameter f g s)
 unfolding parameter
-parameter_rightly f g s = letter_rightly f g (value s).value (value s).cut (value s).rest
+parameter_rightly f g s = letter_rightly f g (value s).value (value s).rest
 
 group_rightly : (f : ℕ) (s : List ℕ) → Rightly (group f s)
 unfolding group Breaks Leaving
@@ -106,7 +102,6 @@ is_broken NotAllowed = false
 is_broken StackLimit = false
 is_broken NotNow = false
 is_broken DamagedRow = false
-is_broken CutShort = false
 
 -- 7
 abbrev is_damaged : Finding → Bool
@@ -118,91 +113,53 @@ is_damaged NotAllowed = false
 is_damaged StackLimit = false
 is_damaged NotNow = false
 is_damaged DamagedRow = true
-is_damaged CutShort = false
-
--- 8
-abbrev is_cut : Finding → Bool
-is_cut Nothing = false
-is_cut EndsInside = false
-is_cut CannotStand = false
-is_cut NotCarried = false
-is_cut NotAllowed = false
-is_cut StackLimit = false
-is_cut NotNow = false
-is_cut DamagedRow = false
-is_cut CutShort = true
-
--- ---- "finding 8 after 7, given only if no other is"
-pub cut_nothing : (cut : Bool) (f : Finding) → f ≡ Nothing → cut_finding cut f ≡ cond cut CutShort Nothing
-cut_nothing true f e = ap (cut_finding true) e
-cut_nothing false f e = e
-
-pub cut_other : (cut : Bool) (f : Finding) → is_clean f ≡ false → cut_finding cut f ≡ f
-cut_other true f e = rw e
-cut_other false f e = refl
 
 record Told (w : ℕ) (m : Beside) (o : Meaning) : Type 0 where
   whole_item : is_broken o.finding ≡ false
   nothing : is_faulty o.finding ≡ true → (o.acts ≡ []) × (o.beside ≡ m)
   zeros : o.finding ≡ DamagedRow → (o.acts ≡ draw (replicate w 0) ∷ []) × (o.beside ≡ m)
-  uncut : is_cut o.finding ≡ false
 
--- what bars an act is none of 1, 2, 7 and 8
+-- what bars an act is none of 1, 2 and 7
 abbrev Bars : Finding → Type 0
-Bars f = (is_broken f ≡ false) × (is_damaged f ≡ false) × (is_cut f ≡ false)
+Bars f = (is_broken f ≡ false) × (is_damaged f ≡ false)
 
 module _ (g : Measure) where
   barred_bars : (k : Kind) (v : Value) (c : Core) → Bars (barred g k v c)
   unfolding barred
-  barred_bars Column v c = (refl, refl, refl)
-  barred_bars DecipointAcross v c = (refl, refl, refl)
-  barred_bars DotAcross v c = (refl, refl, refl)
-  barred_bars DecipointDown v c = (refl, refl, refl)
-  barred_bars DotDown v c = (refl, refl, refl)
-  barred_bars Line v c = (refl, refl, refl)
-  barred_bars LeftMargin v c = choice Bars (ltb (new_left v c) c.layout.right) (refl, refl, refl) (refl, refl, refl)
-  barred_bars RightMargin v c = choice Bars (ltb c.layout.left (new_right g v c)) (refl, refl, refl) (refl, refl, refl)
-  barred_bars TopMargin v c = choice Bars (ltb 0 c.layout.vmi && leb (new_top v c) (LH g)) (refl, refl, refl) (refl, refl, refl)
-  barred_bars Vmi v c = choice Bars (leb (size_of v) 3360000) (refl, refl, refl) (refl, refl, refl)
-  barred_bars LinesPerInch v c = choice Bars (one_of line_rates (whole_part v)) (refl, refl, refl) (refl, refl, refl)
-  barred_bars Hmi v c = (refl, refl, refl)
-  barred_bars Termination v c = choice Bars (leb (whole_part v) 3) (refl, refl, refl) (refl, refl, refl)
+  barred_bars Column v c = (refl, refl)
+  barred_bars DecipointAcross v c = (refl, refl)
+  barred_bars DotAcross v c = (refl, refl)
+  barred_bars DecipointDown v c = (refl, refl)
+  barred_bars DotDown v c = (refl, refl)
+  barred_bars Line v c = (refl, refl)
+  barred_bars LeftMargin v c = choice Bars (ltb (new_left v c) c.layout.right) (refl, refl) (refl, refl)
+  barred_bars RightMargin v c = choice Bars (ltb c.layout.left (new_right g v c)) (refl, refl) (refl, refl)
+  barred_bars TopMargin v c = choice Bars (ltb 0 c.layout.vmi && leb (new_top v c) (LH g)) (refl, refl) (refl, refl)
+  barred_bars Vmi v c = choice Bars (leb (size_of v) 3360000) (refl, refl) (refl, refl)
+  barred_bars LinesPerInch v c = choice Bars (one_of line_rates (whole_part v)) (refl, refl) (refl, refl)
+  barred_bars Hmi v c = (refl, refl)
+  barred_bars Termination v c = choice Bars (leb (whole_part v) 3) (refl, refl) (refl, refl)
   barred_bars PushPop v c =
-      choice Bars (eqb (whole_part v) 0) (choice Bars (ltb c.depth stack_holds) (refl, refl, refl) (refl, refl, refl))
-      (choice Bars (eqb (whole_part v) 1) (choice Bars (ltb 0 c.depth) (refl, refl, refl) (refl, refl, refl)) (refl, refl, refl))
-  barred_bars Resolution v c = choice Bars (one_of resolutions (whole_part v)) (choice Bars (not c.raster.started) (refl, refl, refl) (refl, refl, refl)) (refl, refl, refl)
-  barred_bars StartRaster v c = choice Bars (leb (whole_part v) 1) (choice Bars (not c.raster.started) (refl, refl, refl) (refl, refl, refl)) (refl, refl, refl)
-  barred_bars EndRaster v c = (refl, refl, refl)
-  barred_bars ResetRaster v c = (refl, refl, refl)
-  barred_bars SkipRows v c = choice Bars c.raster.started (refl, refl, refl) (refl, refl, refl)
+      choice Bars (eqb (whole_part v) 0) (choice Bars (ltb c.depth stack_holds) (refl, refl) (refl, refl))
+      (choice Bars (eqb (whole_part v) 1) (choice Bars (ltb 0 c.depth) (refl, refl) (refl, refl)) (refl, refl))
+  barred_bars Resolution v c = choice Bars (one_of resolutions (whole_part v)) (choice Bars (not c.raster.started) (refl, refl) (refl, refl)) (refl, refl)
+  barred_bars StartRaster v c = choice Bars (leb (whole_part v) 1) (choice Bars (not c.raster.started) (refl, refl) (refl, refl)) (refl, refl)
+  barred_bars EndRaster v c = (refl, refl)
+  barred_bars ResetRaster v c = (refl, refl)
+  barred_bars SkipRows v c = choice Bars c.raster.started (refl, refl) (refl, refl)
 
   bar_bars : (a : Act) (c : Core) → Bars (bar g a c)
   unfolding bar
-  bar_bars (type b) c = (refl, refl, refl)
-  bar_bars (control k) c = (refl, refl, refl)
-  bar_bars (escape k) c = (refl, refl, refl)
+  bar_bars (type b) c = (refl, refl)
+  bar_bars (control k) c = (refl, refl)
+  bar_bars (escape k) c = (refl, refl)
   bar_bars (order k v) c = barred_bars k v c
-  bar_bars (print p) c = (refl, refl, refl)
-  bar_bars (draw row) c = (refl, refl, refl)
-
-  -- so it is one of 3 to 6, or there is none
-  pub bar_tells : (a : Act) (c : Core) → is_faulty (bar g a c) ≡ not (is_clean (bar g a c))
-  bar_tells a c = go (bar g a c) (bar_bars a c)
-    where
-      go : (f : Finding) → Bars f → is_faulty f ≡ not (is_clean f)
-      go Nothing h = refl
-      go EndsInside h = refl
-      go CannotStand h = refl
-      go NotCarried h = refl
-      go NotAllowed h = refl
-      go StackLimit h = refl
-      go NotNow h = refl
-      go DamagedRow h = absurd (true≢false h.1)
-      go CutShort h = absurd (true≢false h.2)
+  bar_bars (print p) c = (refl, refl)
+  bar_bars (draw row) c = (refl, refl)
 
   -- nothing is done, and no row is damaged
   nothing_told : (f : Finding) (m : Beside) → Bars f → Told g.wide m (nothing_done f m)
-  nothing_told f m h = record { whole_item = h.0; nothing = λ e. (refl, refl); zeros = λ e. absurd (false≢true (sym h.1 ∙ ap is_damaged e)); uncut = h.2 }
+  nothing_told f m h = record { whole_item = h.0; nothing = λ e. (refl, refl); zeros = λ e. absurd (false≢true (sym h.1 ∙ ap is_damaged e)) }
 
   -- no finding
   clean_told : (m : Beside) (o : Meaning) → o.finding ≡ Nothing → Told g.wide m o
@@ -210,7 +167,6 @@ module _ (g : Measure) where
     whole_item = ap is_broken e;
     nothing = λ h. absurd (false≢true (sym (ap is_faulty e) ∙ h));
     zeros = λ h. absurd (true≢false (sym (ap is_clean e) ∙ ap is_clean h));
-    uncut = ap is_cut e;
   }
 
   gate_told : (a : Act) (c : Core) (m : Beside) → Told g.wide m (gate g a c m)
@@ -224,14 +180,14 @@ module _ (g : Measure) where
       (choice (Told g.wide m) (eqb b (code_byte LineFeed)) (gate_told (control LineFeed) c m)
       (choice (Told g.wide m) (eqb b (code_byte FormFeed)) (gate_told (control FormFeed) c m)
       (choice (Told g.wide m) (eqb b (code_byte Backspace)) (gate_told (control Backspace) c m)
-      (choice (Told g.wide m) (eqb b (code_byte Tab)) (gate_told (control Tab) c m) (nothing_told Nothing m (refl, refl, refl))))))
+      (choice (Told g.wide m) (eqb b (code_byte Tab)) (gate_told (control Tab) c m) (nothing_told Nothing m (refl, refl))))))
 
   two_told : (b : ℕ) (c : Core) (m : Beside) → Told g.wide m (mean_two g b c m)
   unfolding mean_two
   two_told b c m =
       choice (Told g.wide m) (eqb b (escape_byte Reset)) (gate_told (escape Reset) c m)
       (choice (Told g.wide m) (eqb b (escape_byte ClearMargins)) (gate_told (escape ClearMargins) c m)
-      (choice (Told g.wide m) (eqb b (escape_byte HalfLine)) (gate_told (escape HalfLine) c m) (nothing_told NotCarried m (refl, refl, refl))))
+      (choice (Told g.wide m) (eqb b (escape_byte HalfLine)) (gate_told (escape HalfLine) c m) (nothing_told NotCarried m (refl, refl))))
 
   row_told : (p : List ℕ) (c : Core) (m : Beside) → Told g.wide m (mean_row g p c m)
   unfolding mean_row
@@ -244,90 +200,18 @@ module _ (g : Measure) where
         whole_item = refl;
         nothing = λ h. absurd (false≢true h);
         zeros = λ h. (ap (λ l. draw l ∷ []) (damaged_zeros g.wide m.method (seed_now c) p e), refl);
-        uncut = refl;
       }
 
   command_told : (k : Command) (p : List ℕ) (c : Core) (m : Beside) → Told g.wide m (mean_command g k p c m)
   unfolding mean_command
   command_told (Valued k v) p c m =
-      choice (Told g.wide m) (is_negative (use_of k) v) (nothing_told NotAllowed m (refl, refl, refl)) (gate_told (order k (used_value (use_of k) v)) c m)
+      choice (Told g.wide m) (is_negative (use_of k) v) (nothing_told NotAllowed m (refl, refl)) (gate_told (order k (used_value (use_of k) v)) c m)
   command_told (Method v) p c m =
-      choice (Told g.wide m) (is_negative whole v) (nothing_told NotAllowed m (refl, refl, refl))
-      (choice (Told g.wide m) (leb (whole_part v) 3) (clean_told m _ refl) (nothing_told NotAllowed m (refl, refl, refl)))
-  command_told (Print v) p c m = choice (Told g.wide m) (is_negative whole v) (nothing_told NotAllowed m (refl, refl, refl)) (gate_told (print p) c m)
-  command_told (Row v) p c m = choice (Told g.wide m) (is_negative whole v) (nothing_told NotAllowed m (refl, refl, refl)) (row_told p c m)
-  command_told Unknown p c m = nothing_told NotCarried m (refl, refl, refl)
-
-  -- ---- an item with a finding 8: "The command is still carried out"
-  record Does (c : Core) (m : Beside) (o : Meaning) : Type 0 where
-    act : Act
-    acts : o.acts ≡ act ∷ []
-    free : bar g act c ≡ Nothing
-    beside : o.beside ≡ beside_after act m
-
-  -- no finding, so one act
-  abbrev Clean : Core → Beside → Meaning → Type 0
-  Clean c m o = o.finding ≡ Nothing → Does c m o
-
-  -- nothing done, with a finding
-  barred_clean : (f : Finding) (c : Core) (m : Beside) → is_clean f ≡ false → Clean c m (nothing_done f m)
-  barred_clean f c m e h = absurd (false≢true (sym e ∙ ap is_clean h))
-
-  gate_clean : (a : Act) (c : Core) (m : Beside) → Clean c m (gate g a c m)
-  unfolding gate
-  gate_clean a c m =
-      choice_by (Clean c m) (is_clean (bar g a c)) (λ e h. record { act = a; acts = refl; free = clean_nothing (bar g a c) e; beside = refl })
-      (λ e. barred_clean (bar g a c) c m e)
-
-  row_clean : (p : List ℕ) (c : Core) (m : Beside) → Clean c m (mean_row g p c m)
-  unfolding mean_row bar beside_after
-  row_clean p c m h = record { act = draw (decoded g.wide m.method (seed_now c) p).bytes; acts = refl; free = refl; beside = refl }
-
-  -- *b#M has no act, but 32,767 is no method
-  method_clean : (v : Value) (c : Core) (m : Beside) → size_of v ≡ 327670000
-      → Clean c m (cond (leb (whole_part v) 3) (meaning [] Nothing (beside_of (whole_part v))) (nothing_done NotAllowed m))
-  method_clean v c m e = rw (lt-leb (whole_part v) 3 (omega arith)) (barred_clean NotAllowed c m refl)
-
-  command_clean : (k : Command) (p : List ℕ) (c : Core) (m : Beside) → HoldsLow true k → Clean c m (mean_command g k p c m)
-  unfolding mean_command HoldsLow
-  command_clean (Valued k v) p c m low =
-      choice (Clean c m) (is_negative (use_of k) v) (barred_clean NotAllowed c m refl) (gate_clean (order k (used_value (use_of k) v)) c m)
-  command_clean (Method v) p c m low = choice (Clean c m) (is_negative whole v) (barred_clean NotAllowed c m refl) (method_clean v c m (low.1 refl))
-  command_clean (Print v) p c m low = choice (Clean c m) (is_negative whole v) (barred_clean NotAllowed c m refl) (gate_clean (print p) c m)
-  command_clean (Row v) p c m low = choice (Clean c m) (is_negative whole v) (barred_clean NotAllowed c m refl) (row_clean p c m)
-  command_clean Unknown p c m low = barred_clean NotCarried c m refl
-
-  -- what a command's meaning is by its finding, the word that its number was cut short passed on
-  record Passed (c : Core) (m : Beside) (o : Meaning) : Type 0 where
-    whole_item : is_broken o.finding ≡ false
-    nothing : is_faulty o.finding ≡ true → (o.acts ≡ []) × (o.beside ≡ m)
-    zeros : o.finding ≡ DamagedRow → (o.acts ≡ draw (replicate g.wide 0) ∷ []) × (o.beside ≡ m)
-    done : o.finding ≡ CutShort → Does c m o
-
-  -- not passed on
-  kept_passed : (c : Core) (m : Beside) (o : Meaning) → Told g.wide m o → Passed c m o
-  kept_passed c m o h = record { whole_item = h.whole_item; nothing = h.nothing; zeros = h.zeros; done = λ e. absurd (false≢true (sym h.uncut ∙ ap is_cut e)) }
-
-  -- passed on, where there is no other finding
-  clean_passed : (c : Core) (m : Beside) (o : Meaning) → Does c m o → Passed c m (meaning o.acts CutShort o.beside)
-  clean_passed c m o h = record {
-    whole_item = refl;
-    nothing = λ e. absurd (false≢true e);
-    zeros = λ e. absurd (false≢true (ap is_damaged e));
-    done = λ e. record { act = h.act; acts = h.acts; free = h.free; beside = h.beside };
-  }
-
-  some_passed : (cut : Bool) (c : Core) (m : Beside) (o : Meaning) → Told g.wide m o → Clean c m o → Passed c m (passed_on cut o)
-  some_passed cut c m o h k = go (is_clean o.finding) refl
-    where
-      go : (t : Bool) → is_clean o.finding ≡ t → Passed c m (passed_on cut o)
-      go true e = let f = clean_nothing o.finding e in
-          rw (cut_nothing cut o.finding f) (choice (λ x. Passed c m (meaning o.acts x o.beside)) cut (clean_passed c m o (k f)) (rw f at (kept_passed c m o h)))
-      go false e = rw (cut_other cut o.finding e) (kept_passed c m o h)
-
-  command_passed : (k : Command) (cut : Bool) (p : List ℕ) (c : Core) (m : Beside) → HoldsLow cut k → Passed c m (passed_on (cut && uses_number k) (mean_command g k p c m))
-  command_passed k false p c m low = kept_passed c m (mean_command g k p c m) (command_told k p c m)
-  command_passed k true p c m low = some_passed (uses_number k) c m (mean_command g k p c m) (command_told k p c m) (command_clean k p c m low)
+      choice (Told g.wide m) (is_negative whole v) (nothing_told NotAllowed m (refl, refl))
+      (choice (Told g.wide m) (leb (whole_part v) 3) (clean_told m _ refl) (nothing_told NotAllowed m (refl, refl)))
+  command_told (Print v) p c m = choice (Told g.wide m) (is_negative whole v) (nothing_told NotAllowed m (refl, refl)) (gate_told (print p) c m)
+  command_told (Row v) p c m = choice (Told g.wide m) (is_negative whole v) (nothing_told NotAllowed m (refl, refl)) (row_told p c m)
+  command_told Unknown p c m = nothing_told NotCarried m (refl, refl)
 
 -- ---- the table of findings, of an item read and what is behind it
 module _ (g : Measure) (t : State) where
@@ -342,21 +226,15 @@ module _ (g : Measure) (t : State) where
     ends_inside_lem : d.done.finding ≡ EndsInside → (d.state.sequence ≡ Closed) × (d.rest ≡ [])
     cannot_stand_lem : d.done.finding ≡ CannotStand → (d.state.sequence ≡ Closed) × (is_nil d.rest ≡ false)
     damaged : d.done.finding ≡ DamagedRow → RowOfZeros g t d
-    cut_short : d.done.finding ≡ CutShort → StillDone g t d
 
-  passed_table : (n : ℕ) (i : Item) (q : Sequence) (rest : List ℕ) → Passed g t.core t.beside (mean g i t.core t.beside) → Table (done_by n i q rest)
+  told_table : (n : ℕ) (i : Item) (q : Sequence) (rest : List ℕ) → Told g.wide t.beside (mean g i t.core t.beside) → Table (done_by n i q rest)
   unfolding next_all
-  passed_table n i q rest h = record {
+  told_table n i q rest h = record {
     nothing = λ e. let k = h.nothing e in record { acts = k.0; core = ap (λ l. next_all g l t.core) k.0; method = k.1 };
     ends_inside_lem = λ e. absurd (false≢true (sym h.whole_item ∙ ap is_broken e));
     cannot_stand_lem = λ e. absurd (false≢true (sym h.whole_item ∙ ap is_broken e));
     damaged = λ e. let k = h.zeros e in record { acts = k.0; core = ap (λ l. next_all g l t.core) k.0; method = k.1 };
-    cut_short = λ e. let k = h.done e in record { act = k.act; acts = k.acts; free = k.free; core = ap (λ l. next_all g l t.core) k.acts; method = k.beside };
   }
-
-  -- an item that holds no number
-  told_table : (n : ℕ) (i : Item) (q : Sequence) (rest : List ℕ) → Told g.wide t.beside (mean g i t.core t.beside) → Table (done_by n i q rest)
-  told_table n i q rest h = passed_table n i q rest (kept_passed g t.core t.beside (mean g i t.core t.beside) h)
 
   broken_table : (n : ℕ) (f : Finding) (q : Sequence) (rest : List ℕ) → Leaving f q rest → Table (done_by n (broken f) q rest)
   unfolding next_all mean Leaving
@@ -366,47 +244,43 @@ module _ (g : Measure) (t : State) where
     ends_inside_lem = λ e. h;
     cannot_stand_lem = λ e. absurd (let z : ◌≡◌ {A = ℕ} 0 1 = cc in omega arith);
     damaged = λ e. absurd (false≢true (ap is_damaged e));
-    cut_short = λ e. absurd (false≢true (ap is_cut e));
   }
   broken_table n CannotStand q rest h = record {
     nothing = λ e. record { acts = refl; core = refl; method = refl };
     ends_inside_lem = λ e. absurd (let z : ◌≡◌ {A = ℕ} 0 1 = cc in omega arith);
     cannot_stand_lem = λ e. h;
     damaged = λ e. absurd (false≢true (ap is_damaged e));
-    cut_short = λ e. absurd (false≢true (ap is_cut e));
   }
   broken_table n NotCarried q rest h = absurd h
   broken_table n NotAllowed q rest h = absurd h
   broken_table n StackLimit q rest h = absurd h
   broken_table n NotNow q rest h = absurd h
   broken_table n DamagedRow q rest h = absurd h
-  broken_table n CutShort q rest h = absurd h
 
-  item_table : (n : ℕ) (i : Item) (q : Sequence) (rest : List ℕ) → Breaks i q rest → Readable i → Table (done_by n i q rest)
-  unfolding mean Breaks Readable
-  item_table n (text b) q rest h y = told_table n (text b) q rest (gate_told g (type b) t.core t.beside)
-  item_table n (code b) q rest h y = told_table n (code b) q rest (code_told g b t.core t.beside)
-  item_table n (two b) q rest h y = told_table n (two b) q rest (two_told g b t.core t.beside)
-  item_table n (command k cut p) q rest h y = passed_table n (command k cut p) q rest (command_passed g k cut p t.core t.beside y.0)
-  item_table n (broken f) q rest h y = broken_table n f q rest h
+  item_table : (n : ℕ) (i : Item) (q : Sequence) (rest : List ℕ) → Breaks i q rest → Table (done_by n i q rest)
+  unfolding mean Breaks
+  item_table n (text b) q rest h = told_table n (text b) q rest (gate_told g (type b) t.core t.beside)
+  item_table n (code b) q rest h = told_table n (code b) q rest (code_told g b t.core t.beside)
+  item_table n (two b) q rest h = told_table n (two b) q rest (two_told g b t.core t.beside)
+  item_table n (command k p) q rest h = told_table n (command k p) q rest (command_told g k p t.core t.beside)
+  item_table n (broken f) q rest h = broken_table n f q rest h
 
-  done_table : (s : List ℕ) → over t s ≡ false → Table (step g t s)
+  done_table : (s : List ℕ) → Table (step g t s)
   unfolding step
-  done_table s e =
+  done_table s =
       let r = read t.sequence s in
-      item_table (length s - length r.rest) r.item r.sequence r.rest (read_rightly t.sequence s) (read_sane t.sequence s e).bounded
+      item_table (length s - length r.rest) r.item r.sequence r.rest (read_rightly t.sequence s)
 
   -- the table holds of every item
-  pub step_table : (s : List ℕ) → over t s ≡ false → FindingsTable g t s (step g t s)
-  step_table s e =
-      let h = done_table s e in
+  pub step_table : (s : List ℕ) → FindingsTable g t s (step g t s)
+  step_table s =
+      let h = done_table s in
       record {
         nothing = h.nothing;
         ends_inside_lem = h.ends_inside_lem;
         cannot_stand_lem = h.cannot_stand_lem;
         sequence = unfold step in refl;
         damaged = h.damaged;
-        cut_short = h.cut_short;
         taken = step_took g t s;
         left = step_rest g t s;
       }

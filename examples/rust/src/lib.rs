@@ -54,7 +54,6 @@ impl Finding {
     pub const STACK_LIMIT: Finding = Finding(5);
     pub const NOT_NOW: Finding = Finding(6);
     pub const DAMAGED_ROW: Finding = Finding(7);
-    pub const CUT_SHORT: Finding = Finding(8);
 
     pub const fn number(self) -> u32 {
         self.0

@@ -37,7 +37,7 @@ fn a_page_ends() {
 
 #[test]
 fn each_finding_comes_with_its_place() {
-    let cases: [(&[u8], Finding, u32, usize); 8] = [
+    let cases: [(&[u8], Finding, u32, usize); 7] = [
         (b"a\x1b&a12", Finding::ENDS_INSIDE, 1, 1),
         (b"a\x1b&a1c\n", Finding::CANNOT_STAND, 2, 6),
         (b"ab\x1bZ", Finding::NOT_CARRIED, 3, 2),
@@ -45,21 +45,11 @@ fn each_finding_comes_with_its_place() {
         (b"\x1b&f1S", Finding::STACK_LIMIT, 5, 0),
         (b"\x1b*r0A\x1b*t75R", Finding::NOT_NOW, 6, 5),
         (b"\x1b*b2m1W\xFE", Finding::DAMAGED_ROW, 7, 5),
-        (b"a\x1b&a40000H", Finding::CUT_SHORT, 8, 1),
     ];
     for (stream, finding, number, place) in cases {
         assert_eq!(run(stream).0.finding, Some((finding, place)));
         assert_eq!(finding.number(), number);
     }
-}
-
-#[test]
-fn a_number_cut_short_is_used_all_the_same() {
-    let (ran, state, _) = run(b"\x1b&a1h40000Hab");
-    assert_eq!(ran, Ran { done: 2, finding: Some((Finding::CUT_SHORT, 5)), page_ended: false });
-    assert_eq!(state.x(), 15360);
-    let mut room = [0; 32];
-    assert_eq!(PAGE.translate(b"\x1b&a1h40000H", &mut room).unwrap(), b"\x1b&a1H\x1b&a32767H");
 }
 
 /// A call that is refused leaves page, state and place as they were.

@@ -2,7 +2,7 @@
 use native.Mathlib.Omega.{arith}
 use mathlib.Core.Path.{ap}
 use Rattle.read_item.specs.Items.{from_of, to_of}
-use Rattle.do_item.proofs.Items.{no_command, item_command, item_cut}
+use Rattle.do_item.proofs.Items.{no_command, item_command}
 use borrow.Author.Rules.{rules}
 use Rattle.do_item.proofs.do_item.Statement.{statement}
 use Rattle.do_item.proofs.do_item.Tie as tie
@@ -28,23 +28,11 @@ part-do-command-end c = omega (arith, ap from_of c.before.before.i.given.1, ap t
 do-command-requires : tie.Need-do-command-requires
 do-command-requires c κs = search rules
 
-uses-number-requires : tie.Need-uses-number-requires
-uses-number-requires c κs = search rules
-
-passed-on-requires : tie.Need-passed-on-requires
-passed-on-requires c κs = search rules
-
 same_length : tie.Need-same-length
 same_length c = search rules
 
 returns-2 : tie.Need-returns-2
-returns-2 c = item_cut _ _ _ _ _ _ _ _ _ _ _ _ _ _ _ _ c.before.before.before.before.before.before.before.before.before.before.i.given.1 (search rules) c.before.before.before.before.before.before.before.before.before.before.before.before.before.before.requires.1.2 c.before.before.before.before.before.do-command.ensures c.before.uses-number.ensures c.passed_on.ensures
-
-same-length-2 : tie.Need-same-length-2
-same-length-2 c = search rules
-
-returns-3 : tie.Need-returns-3
-returns-3 c = item_command _ _ _ _ _ _ _ _ _ _ _ _ _ _ c.before.before.before.before.before.before.before.before.i.given.1 (search rules) c.before.before.before.do-command.ensures
+returns-2 c = item_command _ _ _ _ _ _ _ _ _ _ _ _ _ c.before.before.before.before.before.before.before.i.given.1 c.before.before.do-command.ensures
 
 pub do-item-spec : {M : Type 1} → statement M
 do-item-spec =
@@ -57,9 +45,5 @@ do-item-spec =
     part-do-command-start
     part-do-command-end
     do-command-requires
-    uses-number-requires
-    passed-on-requires
     same_length
-    returns-2
-    same-length-2
-    returns-3)
+    returns-2)

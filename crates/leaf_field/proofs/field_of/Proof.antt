@@ -82,12 +82,6 @@ payload-to-requires c κs = search rules
 returns-9 : tie.Need-returns-9
 returns-9 c = search (choices, rules) depth 12
 
-value-cut-requires : tie.Need-value-cut-requires
-value-cut-requires c κs = search rules
-
-returns-10 : tie.Need-returns-10
-returns-10 c = search (choices, rules) depth 12
-
 pub field-of-spec : {M : Type 1} → statement M
 field-of-spec =
     tie.close
@@ -108,6 +102,4 @@ field-of-spec =
     payload-from-requires
     returns-8
     payload-to-requires
-    returns-9
-    value-cut-requires
-    returns-10)
+    returns-9)

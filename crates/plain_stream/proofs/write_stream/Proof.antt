@@ -73,7 +73,7 @@ part-do-item-end : tie.Need-slice-bounds-do-item-end invariant-loop decreases-lo
 part-do-item-end c = search rules
 
 do-item-requires : tie.Need-do-item-requires invariant-loop decreases-loop
-do-item-requires c κs = (((c.before.before.before.before.before.before.before.before.loop.invariant.0.wide, c.before.before.before.before.before.before.before.before.loop.invariant.0.high), walking_depth _ c.before.before.before.before.before.before.before.before.loop.invariant.0 _ _ _ _ _ _ _ _ _ _ c.before.before.before.before.before.before.before.before.loop.invariant.2, walking_zero _ c.before.before.before.before.before.before.before.before.loop.invariant.0 _ _ _ _ _ _ _ _ _ _ c.before.before.before.before.before.before.before.before.loop.invariant.2, walking_long _ c.before.before.before.before.before.before.before.before.loop.invariant.0 _ _ _ _ _ _ _ _ _ _ c.before.before.before.before.before.before.before.before.loop.invariant.2), (c.before.before.read-item.ensures.ordered, omega (arith, c.before.before.read-item.ensures.ended, c.before.before.read-item.ensures.inside, c.before.before.before.before.before.before.before.before.loop.invariant.2.telling.inside), c.before.before.read-item.ensures.cut))
+do-item-requires c κs = (((c.before.before.before.before.before.before.before.before.loop.invariant.0.wide, c.before.before.before.before.before.before.before.before.loop.invariant.0.high), walking_depth _ c.before.before.before.before.before.before.before.before.loop.invariant.0 _ _ _ _ _ _ _ _ _ _ c.before.before.before.before.before.before.before.before.loop.invariant.2, walking_zero _ c.before.before.before.before.before.before.before.before.loop.invariant.0 _ _ _ _ _ _ _ _ _ _ c.before.before.before.before.before.before.before.before.loop.invariant.2, walking_long _ c.before.before.before.before.before.before.before.before.loop.invariant.0 _ _ _ _ _ _ _ _ _ _ c.before.before.before.before.before.before.before.before.loop.invariant.2), (c.before.before.read-item.ensures.ordered, omega (arith, c.before.before.read-item.ensures.ended, c.before.before.read-item.ensures.inside, c.before.before.before.before.before.before.before.before.loop.invariant.2.telling.inside)))
 
 slice-aggregate-write-done : tie.Need-slice-aggregate-write-done invariant-loop decreases-loop
 slice-aggregate-write-done c = let z = deed_long _ c.before.before.before.before.before.before.before.before.before.before.before.before.before.before.loop.invariant.0 _ _ _ _ _ _ _ _ _ _ c.before.before.before.before.before.before.before.before.before.before.before.before.before.before.loop.invariant.2 _ c.before.before.before.before.before.before.before.before.before.before.is-over.ensures c.before.before.before.before.before.before.before.before.before.if3.false _ _ _ _ _ c.before.before.before.before.before.before.before.before.read-item.ensures c.before.before.before.before.before.do-item.ensures in search rules

@@ -1,6 +1,8 @@
 -- `read_item::letter_at` meets its contract. Assumes nothing.
 use borrow.Author.Rules.{rules}
-use Rattle.read_item.proofs.Items.{letter_end, letter_there, letter_broken}
+use Rattle.common.proofs.Places.{at_end₃}
+use Rattle.rules.specs.Items.{letter}
+use Rattle.read_item.proofs.Items.{through, letter_there, letter_broken}
 use Rattle.read_item.proofs.letter_at.Tie as tie
 use Rattle.read_item.proofs.letter_at.Statement.{statement}
 
@@ -8,7 +10,8 @@ ends-inside-requires : tie.Need-ends-inside-requires
 ends-inside-requires c κs = search rules
 
 returns : tie.Need-returns
-returns c = search (letter_end, rules)
+unfolding letter
+returns c = search (through, at_end₃ letter, rules)
 
 shared-slice-read-ending-of : tie.Need-shared-slice-read-ending-of
 shared-slice-read-ending-of c = search rules

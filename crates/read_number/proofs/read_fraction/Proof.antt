@@ -20,11 +20,11 @@ read-places-requires c κs = search rules
 returns : tie.Need-returns
 returns c = search (fraction_point, rules)
 
-mul-hold : tie.Need-overflow-mul-hold
-mul-hold c = search rules
+mul-lower : tie.Need-overflow-mul-lower
+mul-lower c = search rules
 
-hold-requires : tie.Need-hold-requires
-hold-requires c κs = search rules
+lower-requires : tie.Need-lower-requires
+lower-requires c κs = search rules
 
 returns-2 : tie.Need-returns-2
 returns-2 c = ⊎_elim (λ w. search (fraction_other, rules)) (λ w. search (fraction_end, rules)) c.before.if1.branch
@@ -38,6 +38,6 @@ read-fraction-spec =
     mul-read-places
     read-places-requires
     returns
-    mul-hold
-    hold-requires
+    mul-lower
+    lower-requires
     returns-2)

@@ -31,8 +31,8 @@ loop-less c = search rules
 loop-again : tie.Need-loop-preserved invariant-loop decreases-loop
 loop-again c = search (placing_again, rules)
 
-hold-requires : tie.Need-hold-requires invariant-loop decreases-loop
-hold-requires c κs = search rules
+lower-requires : tie.Need-lower-requires invariant-loop decreases-loop
+lower-requires c κs = search rules
 
 returns : tie.Need-returns invariant-loop decreases-loop
 returns c =
@@ -52,5 +52,5 @@ read-places-spec =
     add-i
     loop-less
     loop-again
-    hold-requires
+    lower-requires
     returns)

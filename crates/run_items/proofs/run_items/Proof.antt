@@ -60,7 +60,7 @@ read-item-requires : tie.Need-read-item-requires invariant-loop decreases-loop
 read-item-requires c κs = search rules
 
 do-item-requires : tie.Need-do-item-requires invariant-loop decreases-loop
-do-item-requires c κs = (((c.before.before.before.before.before.before.before.before.loop.invariant.0.wide, c.before.before.before.before.before.before.before.before.loop.invariant.0.high), c.before.before.before.before.before.before.before.before.loop.invariant.2.sound.core.depth, c.before.before.before.before.before.before.before.before.loop.invariant.2.sound.core.seed, c.before.before.before.before.before.before.before.before.loop.invariant.2.shaped.0), (c.before.before.read-item.ensures.ordered, omega (arith, c.before.before.read-item.ensures.ended, c.before.before.read-item.ensures.inside, c.before.before.before.before.before.before.before.before.loop.invariant.2.inside), c.before.before.read-item.ensures.cut))
+do-item-requires c κs = (((c.before.before.before.before.before.before.before.before.loop.invariant.0.wide, c.before.before.before.before.before.before.before.before.loop.invariant.0.high), c.before.before.before.before.before.before.before.before.loop.invariant.2.sound.core.depth, c.before.before.before.before.before.before.before.before.loop.invariant.2.sound.core.seed, c.before.before.before.before.before.before.before.before.loop.invariant.2.shaped.0), (c.before.before.read-item.ensures.ordered, omega (arith, c.before.before.read-item.ensures.ended, c.before.before.read-item.ensures.inside, c.before.before.before.before.before.before.before.before.loop.invariant.2.inside)))
 
 add-done-2 : tie.Need-overflow-add-done-2 invariant-loop decreases-loop
 add-done-2 c = record { fits = omega (arith, c.before.before.before.before.before.before.before.before.before.before.before.before.before.loop-test.true, c.before.before.before.before.before.before.before.before.before.before.before.before.before.before.before.before.before.before.before.before.before.before.ranges.allowance.fits) }
