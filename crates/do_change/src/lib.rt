@@ -1,5 +1,7 @@
 // Paper 01, "Commands": what a command with a value changes, apart from the rest of the core, which is large with its stack and its seed row and is not
 // handed over; who has it sets what is told. And the stack's own command.
+#![tactic(auto)]
+
 ghost use Rattle.std.specs.Prelude.{◌≡◌};
 ghost use Rattle.rules.specs.declared.Measure.{Measure};
 ghost use Rattle.rules.specs.declared.Spot.{Spot};

@@ -1,5 +1,7 @@
 // Paper 01, "Commands": where control codes and two-byte commands leave the cursor and the layout, and which codes end the page.
 // Nothing is refused. Any cursor and any layout are taken; a measure within 4,800 by 6,800 dots is asked for, so that lengths fit.
+#![tactic(auto)]
+
 ghost use Rattle.std.specs.Prelude.{◌≡◌, cond, ◌||◌, ◌+◌, ◌*◌, ◌-◌, ◌/◌, ◌<◌, max, eqb, ltb};
 ghost use Rattle.rules.specs.declared.Core.{Core};
 ghost use Rattle.rules.specs.declared.Code.TheVariants.{CarriageReturn, LineFeed, FormFeed, Backspace, Tab};

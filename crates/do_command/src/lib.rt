@@ -1,5 +1,7 @@
 // The commands but for the row: those with a value and no payload, *b#M and &p#X. A command that is barred gives its finding and changes nothing. A
 // measure within 4,800 by 6,800 dots is asked for, so that lengths fit, and a depth that the stack holds.
+#![tactic(auto)]
+
 ghost use Rattle.std.specs.Prelude.{List, ℕ, ◌≤◌};
 ghost use Rattle.rules.specs.declared.Core.{Core};
 ghost use Rattle.rules.specs.declared.Command.TheVariants.{Valued, Method, Print};

@@ -1,5 +1,7 @@
 // What an item did, told apart from the large parts of the core, which stay where they are: the pen and the row method behind it, its finding, whether
 // it ended the page, and what is to be done to the stack.
+#![tactic(auto)]
+
 ghost use Rattle.std.specs.Prelude.{◌≡◌, false};
 ghost use Rattle.do_deed.specs.Deeds.{deed_of};
 

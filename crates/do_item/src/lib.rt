@@ -2,6 +2,8 @@
 // The core is large: its stack and its seed row stay where they are. What else it holds is handed over as a pen, the seed row is lent, and the deed
 // tells what is to be done to the stack. Nothing is refused: an item that is barred gives its finding and changes nothing. A measure within 4,800
 // by 6,800 dots is asked for, so that lengths fit, a depth that the stack holds, and of a row that the bytes of the seed row from W/8 on are zero.
+#![tactic(auto)]
+
 ghost use Rattle.std.specs.Prelude.{◌≡◌, true, ◌≤◌, length, drop};
 ghost use Rattle.rules.specs.declared.Core.{Core};
 ghost use Rattle.rules.specs.Measure.{Bounded};

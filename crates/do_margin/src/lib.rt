@@ -1,5 +1,7 @@
 // Paper 01, "Commands": what a command changes in the margins, the spacing and the line termination, and the finding that bars it, whatever the raster
 // state and the depth of the stack. A measure within 4,800 by 6,800 dots is asked for where a length must fit.
+#![tactic(auto)]
+
 ghost use Rattle.std.specs.Prelude.{◌≡◌, ℕ, ◌+◌, ◌*◌, ◌≤◌, min};
 ghost use Rattle.common.specs.Choice.{one_of};
 ghost use Rattle.rules.specs.declared.Measure.{Measure};

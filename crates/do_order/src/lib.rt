@@ -1,5 +1,7 @@
 // Paper 01, "Commands": what a command with a value changes, and the finding that bars it, which is seen before anything is changed. Nothing is refused: a
 // barred command tells its finding. A measure within 4,800 by 6,800 dots is asked for, so that lengths fit.
+#![tactic(auto)]
+
 ghost use Rattle.std.specs.Prelude.{◌≡◌};
 ghost use Rattle.rules.specs.Measure.{Bounded};
 ghost use Rattle.do_change.specs.Changed.{change_of};

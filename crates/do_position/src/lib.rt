@@ -1,4 +1,6 @@
 // Paper 01, "Commands": where a command puts the cursor. A measure within 4,800 by 6,800 dots is asked for, so that lengths fit.
+#![tactic(auto)]
+
 ghost use Rattle.std.specs.Prelude.{◌≡◌, cond, ◌+◌, ◌-◌, ◌<◌};
 ghost use Rattle.rules.specs.Measure.{Bounded};
 ghost use Rattle.rules.specs.Effects.{target, displacement};

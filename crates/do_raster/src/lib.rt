@@ -1,5 +1,7 @@
 // Paper 01, "Commands": what a command changes in the raster state, or rows skipped, and the finding that bars it, whatever the layout and the depth of
 // the stack. A measure within 4,800 by 6,800 dots is asked for where a length must fit.
+#![tactic(auto)]
+
 ghost use Rattle.std.specs.Prelude.{◌≡◌, cond, ℕ, ◌*◌, ◌/◌, ◌≤◌, eqb};
 ghost use Rattle.rules.specs.declared.Measure.{Measure};
 ghost use Rattle.rules.specs.declared.Value.{Value};

@@ -1,5 +1,7 @@
 // A row drawn: decoded over the seed row, painted where the cursor was, its finding told. A measure within 4,800 by 6,800 dots is asked for, so that
 // lengths fit, and that the bytes of the seed row from W/8 on are zero.
+#![tactic(auto)]
+
 ghost use Rattle.std.specs.Prelude.{◌≡◌, true, cond, ◌/◌, ◌≤◌, length, drop, take};
 ghost use Rattle.rules.specs.declared.Core.{Core};
 ghost use Rattle.rules.specs.declared.Command.TheVariants.{Row};

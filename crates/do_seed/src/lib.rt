@@ -1,4 +1,6 @@
 // What a row does to the state besides its dots and its bytes.
+#![tactic(auto)]
+
 ghost use Rattle.std.specs.Prelude.{◌≡◌, cond};
 ghost use Rattle.rules.specs.Measure.{Bounded};
 ghost use Rattle.rules.specs.States.{zero_seed};

@@ -1,5 +1,7 @@
 // The items that are no command with a letter: text, control codes, two-byte commands and broken pieces. Nothing is refused. A measure within 4,800 by
 // 6,800 dots is asked for, so that lengths fit, and that an item is no command.
+#![tactic(auto)]
+
 ghost use Rattle.std.specs.Prelude.{◌≡◌, false, cond, List, ℕ};
 ghost use Rattle.rules.specs.declared.Core.{Core};
 ghost use Rattle.rules.specs.declared.Escape.TheVariants.{Reset, ClearMargins, HalfLine};

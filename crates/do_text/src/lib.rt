@@ -1,5 +1,7 @@
 // Paper 01, "Commands": where text leaves the cursor and whether it marks the page, and how far a move forward goes.
 // Nothing is refused. Any cursor is taken; a measure within 4,800 by 6,800 dots is asked for, so that lengths fit.
+#![tactic(auto)]
+
 ghost use Rattle.std.specs.Prelude.{◌≡◌, cond, not, ◌||◌, eqb, leb};
 ghost use Rattle.rules.specs.Measure.{Bounded, LW};
 ghost use Rattle.do_text.specs.Cursor.{forward_spot, typed_spot, typed_pen, TypedAll};

@@ -1,5 +1,7 @@
 // Paper 01, "Commands": how a command uses its value: as a position, with its fraction, its whole part only, or not at all.
 // Nothing is refused: any value has its use, and whether it is negative in that use is an answer.
+#![tactic(auto)]
+
 ghost use Rattle.std.specs.Prelude.{◌≡◌, ◌&&◌, ◌≤◌, ltb};
 ghost use Rattle.rules.specs.Number.{size_of, has_minus, whole_part};
 ghost use Rattle.rules.specs.Commands.{whole, full, use_of, position_value, used_value, is_negative};

@@ -1,6 +1,8 @@
 // The library for C, include/rovinuset.h: states are kept by the caller as bytes, pages and streams are lent, answers are numbers.
 // Each function takes any numbers and any bytes; what cannot be carried out is refused by the paper's number and writes nothing.
 // A refusal is what a call gives back. A finding is told by a reference of its own: both tables grow, and one number could not say which is meant.
+#![tactic(auto)]
+
 ghost use Rattle.std.specs.Prelude.{◌≡◌, cond, ◌&&◌, leb, length, take};
 ghost use Rattle.common.specs.Bits.{ones_all};
 ghost use Rattle.rules.specs.Measure.{allowed, measure_of, page_bytes};

@@ -1,4 +1,6 @@
 // The squares of a row: its bits as two, three or four dots each, made once, byte by byte; and where its last dots are.
+#![tactic(auto)]
+
 ghost use Rattle.std.specs.Prelude.{◌≡◌, ◌+◌, ◌*◌, ◌≤◌, ◌<◌, length};
 ghost use Rattle.dot_ink.specs.Ink.{Blank, Used, spread_of, Squared};
 

@@ -1,5 +1,7 @@
 // Bytes or-ed into a part of a page row, from any dot on: the one function through which all that paints goes.
 // Refuses nothing: what lies beyond the part is not painted, and other dots stay.
+#![tactic(auto)]
+
 ghost use Rattle.std.specs.Prelude.{◌≡◌, ◌+◌, ◌*◌, ◌/◌, ◌%◌, ◌^◌, ◌<◌};
 ghost use Rattle.rules.specs.Dots.{inked_line};
 ghost use Rattle.dot_lay.specs.Laid.{Shifted, ored};

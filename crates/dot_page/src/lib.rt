@@ -1,4 +1,6 @@
 // A page's dots: those set on it are counted. Refuses nothing; who counts is asked for a page of at most 2^32 bytes, so that the sum fits.
+#![tactic(auto)]
+
 ghost use Rattle.std.specs.Prelude.{◌≡◌, ◌+◌, ◌≤◌, length, drop};
 ghost use Rattle.common.specs.Bits.{ones_all};
 ghost use Rattle.dot_page.specs.Zeros.{FirstZero};

@@ -1,4 +1,6 @@
 // A row painted on a page. Refuses nothing: what lies beyond the page is not painted.
+#![tactic(auto)]
+
 ghost use Rattle.std.specs.Prelude.{◌≡◌, ◌≤◌, ◌<◌};
 ghost use Rattle.rules.specs.Dots.{inked_lines, painted};
 ghost use Rattle.dot_ink.specs.Ink.{Used};

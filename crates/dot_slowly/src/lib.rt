@@ -1,4 +1,6 @@
 // A row painted dot by dot, for squares and rows of any size.
+#![tactic(auto)]
+
 ghost use Rattle.std.specs.Prelude.{◌≡◌, ◌≤◌, ◌<◌};
 ghost use Rattle.rules.specs.Dots.{inked_line};
 ghost use Rattle.dot_slowly.specs.Walks.{Onward, Seen, Eighth};

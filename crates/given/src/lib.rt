@@ -1,5 +1,7 @@
 // What a program is given: the words of its command line, and its job on standard input. A read that fails is told from the end of
 // the job. Which words there are, and which bytes come, no contract can say; what is made of them is stated.
+#![tactic(auto)]
+
 ghost use Rattle.std.specs.Prelude.{◌≡◌, ◌≤◌, length};
 ghost use Rattle.given.specs.Words.{Spelt, SpeltItems};
 ghost use Rattle.given.specs.Reads.{read_said, Came, Within, no_job};

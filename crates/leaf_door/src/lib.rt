@@ -1,5 +1,7 @@
 // The leaves one by one behind a boundary to C, for tests and measurements: a value, an item, a row, a painting, a count.
 // Each function hands on what its leaf promises; an answer that is an enum is told by numbers. Nothing is refused.
+#![tactic(auto)]
+
 ghost use Rattle.std.specs.Prelude.{◌≡◌, [], ◌++◌, ◌+◌, ◌-◌, ◌≤◌, min, length, drop, replicate};
 ghost use Rattle.common.specs.Bits.{ones_all};
 ghost use Rattle.common.specs.Stores.{Wrote};

@@ -1,4 +1,6 @@
 // A value and what was read told by numbers, field by field, for a caller in C. Nothing is refused.
+#![tactic(auto)]
+
 ghost use Rattle.std.specs.Prelude.{◌≡◌};
 ghost use Rattle.rules.specs.Number.{size_of};
 ghost use Rattle.leaf_field.specs.Fields.{sign_number, kind_number, command_number, command_sign, command_size, item_number, detail, value_sign, value_size, payload_from, payload_to, first_of, group_of, field};

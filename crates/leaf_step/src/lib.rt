@@ -1,5 +1,7 @@
 // A step of a job behind a boundary to C, for tests: steps are compared with refused states, pages and places among the cases.
 // What a step refuses is refused by the paper's number, and writes nothing.
+#![tactic(auto)]
+
 ghost use Rattle.std.specs.Prelude.{◌≤◌, length};
 ghost use Rattle.leaf_step.specs.Told.{Kept, ToldStep};
 

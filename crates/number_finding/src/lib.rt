@@ -1,4 +1,6 @@
 // The paper's number for each finding, each refusal and each verdict, and whether there is a finding at all.
+#![tactic(auto)]
+
 ghost use Rattle.std.specs.Prelude.{◌≡◌};
 ghost use Rattle.rules.specs.Findings.{finding_number, is_clean, refusal_number, verdict_number};
 

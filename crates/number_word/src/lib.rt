@@ -1,5 +1,7 @@
 // A word of the command line as a page measure, and as a number of items. Nothing is refused: what is no decimal number, or too large for any page, is no
 // measure that is allowed, and the call it is handed to refuses it by 10; a number of items that is too large is that of a whole job.
+#![tactic(auto)]
+
 ghost use Rattle.std.specs.Prelude.{◌≡◌, ◌≤◌};
 ghost use Rattle.number_word.specs.Words.{measure_word, items_word, amount_word, one_digit};
 

@@ -1,5 +1,7 @@
 // Numbers and values, written as the plain stream has them. Sizes are in ten-thousandths.
 // Nothing is refused: what has no room is not written.
+#![tactic(auto)]
+
 ghost use Rattle.std.specs.Prelude.{◌≡◌, cond, [], ◌∷◌, ◌+◌, ◌*◌, ◌/◌, ◌≤◌, ◌<◌, length, drop};
 ghost use Rattle.common.specs.Stores.{Wrote};
 ghost use Rattle.rules.specs.Plain.{decimal, places_up_to, put_size, put_value};

@@ -4,6 +4,8 @@
 // program says UNREAD and nothing else; if a write fails it stops and says UNWRITTEN.
 // A third word that is a number other than 0 asks how far in the job it is: then AT, with the place from which the next step goes on, is behind
 // each PAGE but that of a used last page, which is told with END. Other readers do not ask, and their lines stay as they are.
+#![tactic(auto)]
+
 ghost use Rattle.std.specs.Prelude.{◌≡◌, true, ◌≤◌, length};
 ghost use Rattle.rules.specs.Measure.{allowed, measure_of, page_bytes, longest_stream};
 ghost use Rattle.rules.specs.States.{afresh};

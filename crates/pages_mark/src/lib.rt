@@ -1,5 +1,7 @@
 // What the program `pages` says of a finding: the report's line FAULT, and behind it a line of its own, MARK, with where on the page the item began, so that
 // who draws pages can mark it there. Nothing is refused: what has no room is not written.
+#![tactic(auto)]
+
 ghost use Rattle.std.specs.Prelude.{[]};
 ghost use Rattle.common.specs.Stores.{Wrote};
 ghost use Rattle.pages_mark.specs.Marks.{marked};

@@ -1,5 +1,7 @@
 // What stands before the pages of a job: the first line of its report, with the refusal if there is one, and the head of each page as PBM has it.
 // Both are written into a room that is lent: what has no room is not written.
+#![tactic(auto)]
+
 ghost use Rattle.common.specs.Stores.{Holds};
 ghost use Rattle.pages_open.specs.Opening.{Begins, pbm_head, longest_head};
 

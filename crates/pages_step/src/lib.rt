@@ -1,6 +1,8 @@
 // A job in steps, for a program that writes its pages and its lines as they come: neither all pages nor all lines fit in a room.
 // A step is one run: it leaves a page to be written in the page buffer, and its lines in a room. Where the run is refused the step tells why and writes nothing;
 // on a job that `pages_open::begin` has not refused none is.
+#![tactic(auto)]
+
 ghost use Rattle.std.specs.Prelude.{◌≡◌, ◌≤◌, length};
 ghost use Rattle.common.specs.Stores.{Wrote};
 ghost use Rattle.dot_page.specs.Zeros.{FirstZero};

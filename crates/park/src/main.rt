@@ -2,6 +2,8 @@
 // input cannot be read, UNWRITTEN where a write fails. The page measure is given by two words; without them it is 2552 by 3304, as for `pages`. A third word
 // gives how many items of the job are done; without it all are, since no job has as many. One byte more than the limit is read, so that a longer input is
 // seen to be longer. The room is that of the longest text, so 15 is never said.
+#![tactic(auto)]
+
 use given::Given;
 use libc::{STDERR_FILENO, STDOUT_FILENO};
 

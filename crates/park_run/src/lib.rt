@@ -1,5 +1,7 @@
 // A job run afresh for so many items, and its state parked: what the program `park` does. Refused jobs (10, 11, 12, then as a state is refused: 16, 15) write
 // nothing of the room. The page is a place to draw on, which nobody reads.
+#![tactic(auto)]
+
 ghost use Rattle.std.specs.Prelude.{◌≡◌, true, ◌≤◌, length, drop};
 ghost use Rattle.rules.specs.Measure.{allowed, measure_of, page_bytes, longest_stream};
 ghost use Rattle.rules.specs.States.{afresh};

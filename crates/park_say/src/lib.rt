@@ -1,4 +1,6 @@
 // What the program `park` says of a job: the parked text of its state, or one line with the number of the refusal.
+#![tactic(auto)]
+
 ghost use Rattle.park_say.specs.Said.{Says};
 
 use park_run::park_job;

@@ -1,5 +1,7 @@
 // Paper 02, P1: the text of a state, line by line, into a room that is lent; and its length, counted before anything is written.
 // Nothing is refused: what has no room is not written.
+#![tactic(auto)]
+
 ghost use Rattle.std.specs.Prelude.{◌≡◌, [], ◌∷◌, ◌+◌, ◌*◌, ◌≤◌, ◌<◌, min, length, take};
 ghost use Rattle.common.specs.Stores.{Wrote};
 ghost use Rattle.plain_length.specs.Counts.{Counted};

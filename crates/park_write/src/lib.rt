@@ -1,4 +1,6 @@
 // Paper 02, P1: a state parked as text in a room that is lent. Refused calls (10, 13, 16, 15, in that order) write nothing: the text is counted first.
+#![tactic(auto)]
+
 ghost use Rattle.std.specs.Prelude.{◌≡◌, List, ℕ};
 ghost use Rattle.rules.specs.Park.{is_open, stow_refused};
 ghost use Rattle.park_write.specs.Parks.{Parks};

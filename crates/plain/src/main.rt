@@ -2,6 +2,8 @@
 // read, UNWRITTEN where a write fails. The page measure is given by two words; without them it is 2552 by 3304, as for `pages`. One byte
 // more than the limit is read, so that a longer input is seen to be longer. The room is that of the longest plain stream, so 15 is said
 // only of a longer one.
+#![tactic(auto)]
+
 use given::Given;
 use libc::{STDERR_FILENO, STDOUT_FILENO};
 use rules::LONGEST_STREAM;

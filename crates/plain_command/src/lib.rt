@@ -1,4 +1,6 @@
 // Commands written plain: each as its own sequence, ended by a capital. Where the room ends, writing ends; nothing is written outside it.
+#![tactic(auto)]
+
 ghost use Rattle.std.specs.Prelude.{◌≡◌, []};
 ghost use Rattle.common.specs.Stores.{Wrote};
 ghost use Rattle.rules.specs.Acts.{order};

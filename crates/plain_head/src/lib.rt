@@ -1,4 +1,6 @@
 // What stands before the payload of a command, written plain: ESC, two bytes, the count and the letter. Where the room ends, writing ends.
+#![tactic(auto)]
+
 ghost use Rattle.std.specs.Prelude.{[], ◌∷◌};
 ghost use Rattle.common.specs.Stores.{Wrote};
 ghost use Rattle.rules.specs.Commands.{spelling, print_spelled, row_spelled};

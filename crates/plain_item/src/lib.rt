@@ -1,6 +1,8 @@
 // One item in the plain stream: text, codes and two-byte commands as they are, each command as its own sequence, rows as *b#W. What was
 // not carried out is dropped. Where the room ends, writing ends; the next place is given all the same, so that a walk over an empty
 // room counts. Nothing is refused: from and to are the payload's places as the reader gives them.
+#![tactic(auto)]
+
 ghost use Rattle.std.specs.Prelude.{◌≡◌, List, [], ℕ, ◌+◌, ◌≤◌, length};
 ghost use Rattle.common.specs.Lists.{trim};
 ghost use Rattle.rules.specs.declared.Command.TheVariants.{Valued, Print, Row};

@@ -1,4 +1,6 @@
 // How many bytes a number or a value has as it is written, so that a caller can count before it writes.
+#![tactic(auto)]
+
 ghost use Rattle.std.specs.Prelude.{[], ◌<◌};
 ghost use Rattle.rules.specs.Plain.{decimal, places_up_to, put_size, put_value};
 ghost use Rattle.plain_length.specs.Counts.{Counted};

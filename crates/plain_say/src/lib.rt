@@ -1,4 +1,6 @@
 // What the program `plain` says of a stream: its plain stream, or one line with the number of the refusal.
+#![tactic(auto)]
+
 ghost use Rattle.plain_say.specs.Said.{Says};
 
 use plain_translate::translate;

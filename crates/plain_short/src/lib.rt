@@ -1,5 +1,7 @@
 // The items of one byte or two in the plain stream: text, codes and two-byte commands as they are. What was not carried out is dropped. Where the room
 // ends, writing ends; the next place is given all the same, so that a walk over an empty room counts. A place of at most 2^40 is asked for, so that sums fit.
+#![tactic(auto)]
+
 ghost use Rattle.std.specs.Prelude.{◌≡◌, [], ◌∷◌, ◌≤◌};
 ghost use Rattle.common.specs.Choice.{one_of};
 ghost use Rattle.common.specs.Stores.{Puts};

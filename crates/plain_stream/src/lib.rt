@@ -1,5 +1,7 @@
 // The plain stream of a stream that a call has taken, written as far as there is room. No page is drawn and no state handed in; the state's functions are
 // those of a run. Nothing is refused: a measure within 4,800 by 6,800 dots and a stream of at most 1,048,576 bytes are asked for.
+#![tactic(auto)]
+
 ghost use Rattle.std.specs.Prelude.{◌+◌, ◌≤◌, length, take};
 ghost use Rattle.common.specs.Stores.{Puts};
 ghost use Rattle.rules.specs.Measure.{longest_stream};

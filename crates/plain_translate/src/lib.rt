@@ -1,5 +1,7 @@
 // The plain stream of a stream: the same pages, the same end state, no finding. The stream is walked twice: once to count, on no room at all, so that
 // nothing is written where the room is short.
+#![tactic(auto)]
+
 ghost use Rattle.std.specs.Prelude.{◌≡◌, List, ℕ};
 ghost use Rattle.rules.specs.Plain.{refused_room};
 ghost use Rattle.theorems.specs.Statements.{TranslatePromise};

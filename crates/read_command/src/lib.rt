@@ -1,5 +1,7 @@
 // Which command the bytes of a sequence name: by its first byte, then its group, then its letter.
 // Nothing is refused: bytes that name no command give Unknown.
+#![tactic(auto)]
+
 ghost use Rattle.std.specs.Prelude.{◌≡◌};
 ghost use Rattle.rules.specs.Commands.{chosen};
 

@@ -1,5 +1,7 @@
 // Reading one item of a PCL stream at a place of it. Nothing is refused: what cannot be read is a broken piece, with finding 1 or 2.
 // No state is seen but the open sequence.
+#![tactic(auto)]
+
 ghost use Rattle.std.specs.Prelude.{◌≡◌, ◌≤◌, ◌<◌, length, drop};
 ghost use Rattle.rules.specs.Items.{ends_inside, payload, letter, parameter, group, behind_escape, is_text, read};
 ghost use Rattle.read_item.specs.Items.{up_to, ItemAt, Begins};

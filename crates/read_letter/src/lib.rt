@@ -1,4 +1,6 @@
 // The letter of a command: how it ends the command, and how many payload bytes it asks for.
+#![tactic(auto)]
+
 ghost use Rattle.std.specs.Prelude.{◌≡◌};
 ghost use Rattle.rules.specs.Number.{count};
 ghost use Rattle.rules.specs.Items.{has_payload};

@@ -1,5 +1,7 @@
 // The value of a command, read from a stream. Sizes are in ten-thousandths.
 // Nothing is refused: any bytes have a value, a place beyond the end has the value 0.
+#![tactic(auto)]
+
 ghost use Rattle.std.specs.Prelude.{◌≡◌, ◌+◌, ◌*◌, ◌-◌, ◌≤◌, ◌<◌, min, drop};
 ghost use Rattle.rules.specs.Number.{digits, places, fraction, size};
 ghost use Rattle.read_number.specs.Answers.{Took, relative_at, absolute_at, ReadAt};

@@ -1,6 +1,8 @@
 // The report of standard input on standard output, or one line on standard error: UNREAD where the input cannot be read, UNWRITTEN where
 // the report cannot be written. One byte more than the limit is read, so that a longer input is seen to be longer. The room is that of the
 // longest report, so by the contract of `write_report` what is written is the whole report of what was read.
+#![tactic(auto)]
+
 ghost use Rattle.std.specs.Prelude.{◌≡◌, length};
 ghost use Rattle.report_laws.specs.Bound.{longest_report};
 

@@ -1,5 +1,7 @@
 // The lines SIZE, REFUSED and FAULT of the report, each written into a room that is lent.
 // Nothing is refused: what has no room is not written.
+#![tactic(auto)]
+
 ghost use Rattle.std.specs.Prelude.{[], ◌∷◌};
 ghost use Rattle.common.specs.Stores.{Wrote};
 ghost use Rattle.rules.specs.Report.{line, SIZE, refused_line, fault};

@@ -1,5 +1,7 @@
 // A line of the report, piece by piece, into a room that is lent: its word, its numbers behind tabs, LF.
 // Nothing is refused: what has no room is not written.
+#![tactic(auto)]
+
 ghost use Rattle.std.specs.Prelude.{[], ◌∷◌};
 ghost use Rattle.common.specs.Stores.{Wrote};
 ghost use Rattle.rules.specs.Plain.{decimal};

@@ -1,5 +1,7 @@
 // The lines PAGE and END of the report, for a page that is done and for the end, each written into a room that is lent.
 // Nothing is refused: what has no room is not written.
+#![tactic(auto)]
+
 ghost use Rattle.std.specs.Prelude.{cond, [], ◌∷◌, ◌≤◌, length};
 ghost use Rattle.common.specs.Bits.{ones_all};
 ghost use Rattle.common.specs.Stores.{Wrote};

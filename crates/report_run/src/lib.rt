@@ -1,5 +1,7 @@
 // What one run adds to the report: the lines of its finding and of the page that it ended, and what they count.
 // Nothing is refused: what has no room is not written.
+#![tactic(auto)]
+
 ghost use Rattle.std.specs.Prelude.{◌≡◌, [], ◌≤◌, length};
 ghost use Rattle.common.specs.Stores.{Wrote};
 ghost use Rattle.dot_page.specs.Zeros.{FirstZero};

@@ -1,4 +1,6 @@
 // What a program says of a job by the verdict of the call that wrote its text: that text, or one line with the number of the refusal.
+#![tactic(auto)]
+
 ghost use Rattle.report_verdict.specs.Said.{SaysVerdict};
 
 use report_fault::write_refused;

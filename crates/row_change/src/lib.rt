@@ -1,5 +1,7 @@
 // Method 3: the changes that a payload makes to the one lent row, in place, element by element. An element is a control byte with all that it
 // asks for. What lies beyond the row is dropped.
+#![tactic(auto)]
+
 ghost use Rattle.std.specs.Prelude.{◌≡◌, ◌+◌, ◌≤◌, ◌<◌, length, take, drop};
 ghost use Rattle.rules.specs.declared.Mode.TheVariants.{Ready};
 ghost use Rattle.rules.specs.Rows.{changed};

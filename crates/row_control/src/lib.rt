@@ -1,4 +1,6 @@
 // The control bytes of a payload, by methods 1 to 3: what each means, and a first look over the payload, which shows whether a byte is missing.
+#![tactic(auto)]
+
 ghost use Rattle.std.specs.Prelude.{◌≡◌, ◌≤◌, ◌<◌, length};
 ghost use Rattle.rules.specs.Rows.{control2, control3, is_whole};
 ghost use Rattle.row_control.specs.Controls.{control_of, count, whole_from, Means, Passed, Behind};

@@ -1,5 +1,7 @@
 // Rows by methods 0 to 3, in the one lent row. By method 3 it is changed in place, after a first look over the payload has shown that no byte is missing. Methods 1
 // and 2 fill it in one pass: whatever was put into it, a damaged row is zeros. Refuses no payload: a damaged one gives a row of zeros, and the answer says so.
+#![tactic(auto)]
+
 ghost use Rattle.std.specs.Prelude.{◌≡◌, ◌≤◌, min, length};
 ghost use Rattle.rules.specs.Rows.{by_control, decoded, zero_row};
 ghost use Rattle.row_control.specs.Controls.{control_of};

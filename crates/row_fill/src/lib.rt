@@ -1,5 +1,7 @@
 // Methods 1 and 2: the one lent row is filled from its start, element by element, and zeros are put behind the last. An element is a control byte
 // with all that it asks for. What was in the row before does not matter, and what lies beyond it is dropped.
+#![tactic(auto)]
+
 ghost use Rattle.std.specs.Prelude.{◌≤◌, ◌<◌, length, take, drop};
 ghost use Rattle.row_control.specs.Controls.{repeated};
 ghost use Rattle.row_fill.specs.Fills.{Small, Put, Onward, Filled};

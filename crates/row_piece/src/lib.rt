@@ -1,5 +1,7 @@
 // Bytes put into the one lent row: copies and runs. What lies beyond the row is dropped. They are put in exactly; or over, where what stands behind
 // them in the row is still to be written: then by blocks of sixteen, which a processor stores at once, and which may run over their end.
+#![tactic(auto)]
+
 ghost use Rattle.std.specs.Prelude.{◌≡◌, ◌+◌, ◌-◌, ◌≤◌, ◌<◌, length, take, drop, replicate};
 ghost use Rattle.std.proofs.lemmas.List.Edits.{sets};
 ghost use Rattle.row_piece.specs.Pieces.{Over};

@@ -1,5 +1,7 @@
 // A run: at most the items that the caller allows, from a place of the stream on, in a state that was handed in, on a page that is lent.
 // Refused calls (10 to 14) write nothing and hand state and place back. A run stops early only after a finding, a page end or the stream's end.
+#![tactic(auto)]
+
 ghost use Rattle.std.specs.Prelude.{◌≡◌, List, cond, ◌||◌, ℕ, ◌≤◌, eqb, length, replicate};
 ghost use Rattle.dot_page.specs.Zeros.{FirstZero};
 ghost use Rattle.rules.specs.declared.Refusal.{Refusal};

@@ -1,5 +1,7 @@
 // The items of a run, one after the other, on the page's own bytes: what `run` does once a call is taken and the page is ready.
 // Nothing is refused. A run stops early only after a finding, a page end or the stream's end.
+#![tactic(auto)]
+
 ghost use Rattle.std.specs.Prelude.{◌≡◌, cond, not, ◌&&◌, ◌≤◌, length, drop};
 ghost use Rattle.common.specs.Lists.{is_nil};
 ghost use Rattle.rules.specs.Findings.{is_clean};

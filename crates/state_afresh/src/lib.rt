@@ -1,4 +1,6 @@
 // Paper 01, "Measures": the state afresh. A measure within 4,800 by 6,800 dots is asked for; beyond it lengths would not fit.
+#![tactic(auto)]
+
 ghost use Rattle.std.specs.Prelude.{◌≡◌};
 ghost use Rattle.rules.specs.Measure.{Bounded};
 ghost use Rattle.rules.specs.States.{fresh_top, fresh_layout, fresh_core, afresh};

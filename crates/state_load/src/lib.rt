@@ -1,6 +1,8 @@
 // A state kept between calls as bytes at fixed offsets, numbers little-endian, for callers that are not Rattle: read.
 // Any bytes are read. Those that are no state, because they are too few or a flag is neither 0 nor 1, are read as a state
 // whose row method is 255: no such state is sound. Nothing is refused.
+#![tactic(auto)]
+
 ghost use Rattle.std.specs.Prelude.{◌≡◌, cond, not, ◌+◌, ◌*◌, ◌≤◌, eqb, get_or};
 ghost use Rattle.state_load.specs.Kept.{u32_at, u64_at, spot_at, layout_at, raster_at, stack_at, seed_at, core_at, is_state, sequence_at, state_takes, state_at};
 

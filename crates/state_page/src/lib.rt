@@ -1,5 +1,7 @@
 // A page's measure, and places brought into it. Lengths are in units of 1/7200 inch.
 // A measure within 4,800 by 6,800 dots is asked for; beyond it lengths would not fit.
+#![tactic(auto)]
+
 mod numbers;
 mod page;
 

@@ -1,4 +1,6 @@
 // A core in three parts: its pen, its stack, its seed row. The last two are large, so that a loop keeps them where they are and hands on the pen alone.
+#![tactic(auto)]
+
 ghost use Rattle.std.specs.Prelude.{◌≡◌};
 ghost use Rattle.state_pen.specs.Pens.{pen_of, core_of};
 

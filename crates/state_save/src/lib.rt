@@ -1,5 +1,7 @@
 // A state kept between calls as bytes at fixed offsets, numbers little-endian, for callers that are not Rattle: written.
 // Nothing is refused: what has no room is not written.
+#![tactic(auto)]
+
 ghost use Rattle.std.specs.Prelude.{◌≡◌, [], ◌∷◌, ◌++◌, ◌≤◌, length};
 ghost use Rattle.std.proofs.lemmas.List.Edits.{sets};
 ghost use Rattle.common.specs.Choice.{flagged};

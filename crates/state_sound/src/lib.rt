@@ -1,4 +1,6 @@
 // Paper 01, "Calls refused as a whole": whether a handed state is sound. Any state is taken, on a page within 4,800 by 6,800 dots.
+#![tactic(auto)]
+
 ghost use Rattle.std.specs.Prelude.{◌≡◌, ◌&&◌, ◌≤◌, eqb, take, drop};
 ghost use Rattle.common.specs.Choice.{within};
 ghost use Rattle.rules.specs.Measure.{Bounded};

@@ -1,6 +1,8 @@
 // What a parked text on standard input holds, on standard output: a line for each member, its positions, its row; or there the line of a refusal. On standard
 // error UNREAD where the input cannot be read, UNWRITTEN where a write fails. One byte more than a stream may have is read, so that a longer text is seen to be
 // longer. The room is that of the longest that is said.
+#![tactic(auto)]
+
 use given::Given;
 use libc::{STDERR_FILENO, STDOUT_FILENO};
 

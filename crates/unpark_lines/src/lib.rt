@@ -1,6 +1,8 @@
 // The lines of a parked text, read into arrays from any bytes and any place: a place behind the end is the end.
 // An answer is the place behind what was read, or Wrong where the bytes are not of the form; then every array is as blank as it began.
 // A number, a position or a byte that has no place in its array is read and not stored.
+#![tactic(auto)]
+
 ghost use Rattle.std.specs.Prelude.{◌≡◌, cond, ◌+◌, ◌*◌, ◌-◌, ◌≤◌, ◌<◌, eqb, length, drop, set, replicate};
 ghost use Rattle.rules.specs.Measure.{origin};
 ghost use Rattle.rules.specs.Texts.{up_to, number, field, expect, expect_all, numbers, line_of, is_hex, unhex, pair, many, position, row};

@@ -1,6 +1,8 @@
 // A parked text read back: the page measure and the state, or refused by 17 or 18, with no state. One pass over any bytes: the form of the whole text first,
 // and nothing is judged before it is known. What was read is judged when its lines are done with, and not inside of their reading: so the arrays of the lines
 // and the copies that soundness is asked on need not stand on the stack at once.
+#![tactic(auto)]
+
 ghost use Rattle.std.specs.Prelude.{◌≡◌, cond, eqb, get_or, drop, replicate, [], ◌/◌};
 ghost use Rattle.rules.specs.Texts.{line_of, row};
 ghost use Rattle.rules.specs.Forms.{parked_of, flags_of, JOB};

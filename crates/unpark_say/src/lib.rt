@@ -1,5 +1,7 @@
 // What the program `unpark` says of a text: what it holds, a line for each member and then its positions and its row, or one line with the number of the
 // refusal.
+#![tactic(auto)]
+
 ghost use Rattle.std.specs.Prelude.{[], ◌∷◌};
 ghost use Rattle.common.specs.Stores.{Wrote};
 ghost use Rattle.rules.specs.Forms.{parked_of, JOB};
