@@ -7,7 +7,7 @@ ghost use Rattle.state_pen.specs.Pens.{pen_of, core_of};
 use rules::{Core, Layout, Raster, Spot};
 
 // The core but for its stack and its seed row.
-#[derive(Drop)]
+#[derive(Clone, Copy)]
 pub struct Pen {
     pub at: Spot,
     pub layout: Layout,

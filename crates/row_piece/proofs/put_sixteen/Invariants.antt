@@ -1,0 +1,11 @@
+-- `row_piece::put_sixteen` meets its contract: k of the bytes are stored. Assumes nothing.
+use Prim.Native.Nat.{◌-◌}
+use borrow.Author.Rules.{rules}
+use Rattle.row_piece.proofs.Clips.{Copying, putting_none, putting_more, putting_end, nearer}
+use Rattle.row_piece.proofs.put_sixteen.Given as goal
+
+abbrev pub invariant-loop-k : goal.invariant-loop-k
+invariant-loop-k l = Copying l.initial.row l.at l.b 0 16 16 l.row l.k
+
+abbrev pub decreases-loop-k : goal.decreases-loop-k
+decreases-loop-k l = 16 - l.k

@@ -1,0 +1,20 @@
+-- `state_load::stack_at` meets its contract. Assumes nothing.
+use mathlib.Core.Path.{◌≡◌}
+use mathlib.Core.List.{◌++◌}
+use Prim.Native.Nat.{◌+◌, ◌*◌, ◌-◌, ◌≤◌}
+use lib.ListN.{replicate}
+use Rattle.state_load.specs.Kept.{spot_at, table}
+use Rattle.state_load.proofs.Tables.{table_more, table_all}
+use Rattle.rules.specs.Measure.{spot}
+use borrow.Author.Rules.{rules}
+use Rattle.state_load.proofs.stack_at.Goals as goal
+
+pub loop-i-init : goal.loop-i-init
+unfolding table
+loop-i-init c = search rules
+
+pub loop-i-preserved : goal.loop-i-preserved
+loop-i-preserved c = search (table_more, rules)
+
+pub returns : goal.returns
+returns c = search (table_all, rules)
