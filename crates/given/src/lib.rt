@@ -6,8 +6,11 @@ ghost use Rattle.std.specs.Prelude.{◌≡◌, ◌≤◌, length};
 ghost use Rattle.given.specs.Words.{Spelt, SpeltItems};
 ghost use Rattle.given.specs.Reads.{read_said, Came, Within, no_job};
 
-use libc::STDIN_FILENO;
 use rules::LONGEST_STREAM;
+use std::env::FillError;
+use std::io;
+use std::io::Read;
+use std::rt::Env;
 
 // The job, by the number of its bytes, or that it could not be read.
 #[derive(Drop)]
@@ -33,30 +36,34 @@ enum Said {
 }
 
 // Word i of the command line; one of more than 20 bytes has none.
-fn word_at(i: usize) -> Word
+fn word_at(rt: &impl Env, i: usize) -> Word
     ensures { (result.length ≤ 20) × (length result.bytes ≡ 20) }
 {
     let mut bytes = [0u8; 20];
-    if os::arg_count() <= i {
-        return Word {
+    match rt.arg(i, &mut bytes) {
+        Ok(length) => Word {
+            there: true,
+            length,
+            bytes,
+        },
+        Err(FillError::TooLong) => Word {
+            there: true,
+            length: 0,
+            bytes,
+        },
+        Err(FillError::NotPresent) => Word {
             there: false,
             length: 0,
             bytes,
-        };
-    }
-    let length = os::arg(i, &mut bytes);
-    Word {
-        there: true,
-        length,
-        bytes,
+        },
     }
 }
 
 // The measure that word i of the command line gives, or another where there is no such word. A word of more than 20 bytes is no measure.
-pub fn measure_word(i: usize, otherwise: usize) -> usize
+pub fn measure_word(rt: &impl Env, i: usize, otherwise: usize) -> usize
     ensures { Spelt otherwise result }
 {
-    let word = word_at(i);
+    let word = word_at(rt, i);
     if !word.there {
         return otherwise;
     }
@@ -66,10 +73,10 @@ pub fn measure_word(i: usize, otherwise: usize) -> usize
 }
 
 // The number of items that word i of the command line gives, or another where there is no such word. A word of more than 20 bytes is none.
-pub fn items_word(i: usize, otherwise: usize) -> usize
+pub fn items_word(rt: &impl Env, i: usize, otherwise: usize) -> usize
     ensures { SpeltItems otherwise result }
 {
-    let word = word_at(i);
+    let word = word_at(rt, i);
     if !word.there {
         return otherwise;
     }
@@ -87,13 +94,12 @@ pub fn longest_input() -> [u8; LONGEST_STREAM + 1]
 }
 
 // What the answer of a read means.
-fn said_by(got: isize) -> Said
+fn said_by(got: io::Result<usize>) -> Said
     ensures { result ≡ read_said got }
 {
-    if got < 0 {
+    let Ok(n) = got else {
         return Said::Failed;
-    }
-    let n = got as usize;
+    };
     if n == 0 {
         return Said::Over;
     }
@@ -101,20 +107,20 @@ fn said_by(got: isize) -> Said
 }
 
 // One read, to behind the bytes that came before.
-fn read_on(input: &mut [u8], done: usize) -> Said
+fn read_on(from: &mut impl Read, input: &mut [u8], done: usize) -> Said
     requires { done ≤ length input.old }
     ensures { Came done result input.new }
 {
-    said_by(libc::read(STDIN_FILENO, &mut input[done..]))
+    said_by(from.read(&mut input[done..]))
 }
 
 // Reads the job to its end, or until the place for it is full.
-pub fn read_job(input: &mut [u8]) -> Given
+pub fn read_job(from: &mut impl Read, input: &mut [u8]) -> Given
     ensures { Within result input.new }
 {
     let mut done: usize = 0;
     while done < input.len() {
-        let said = read_on(input, done);
+        let said = read_on(from, input, done);
         match said {
             Said::Failed => return Given::Unread,
             Said::Over => return Given::Job(done),

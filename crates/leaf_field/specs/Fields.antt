@@ -1,5 +1,5 @@
 -- The answers of the leaves by numbers.
-use Rattle.std.specs.Prelude.{Bool, true, false, cond, ℕ, eqb}
+use Rattle.std.specs.Prelude.{Bool, cond, ℕ, eqb}
 use Rattle.rules.specs.declared.Value.{Value}
 use Rattle.rules.specs.declared.Value.TheVariants.{Absolute, Relative}
 use Rattle.rules.specs.declared.Kind.{Kind}

@@ -11,7 +11,7 @@ use read_letter::{Ending, asked_by, ending_of};
 use rules::{Command, Finding, Sequence, Value};
 
 // An item: text, a control code, a two-byte command, a command whose payload lies in the stream, or a broken piece.
-#[derive(Drop)]
+#[derive(Clone, Copy)]
 pub enum Item {
     Text(u8),
     Code(u8),
@@ -25,7 +25,7 @@ pub enum Item {
 }
 
 // An item, the sequence that is open behind it, and the place behind it.
-#[derive(Drop)]
+#[derive(Clone, Copy)]
 pub struct ReadItem {
     pub item: Item,
     pub sequence: Sequence,
@@ -33,7 +33,7 @@ pub struct ReadItem {
 }
 
 // The beginning of an item: a sequence, whose value begins at a place, or an item that is read as a whole.
-#[derive(Drop)]
+#[derive(Clone, Copy)]
 enum Begun {
     Sequence { first: u8, group: u8, from: usize },
     Read(ReadItem),

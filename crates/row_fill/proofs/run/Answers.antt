@@ -1,0 +1,10 @@
+-- `row_fill::run` meets its contract. Assumes nothing.
+use borrow.Author.Rules.{rules}
+use Rattle.row_fill.proofs.Filling.{run_none, run_some}
+use Rattle.row_fill.proofs.run.Goals as goal
+
+pub returns-then-s-i : goal.returns-then-s-i
+returns-then-s-i c = search (run_none, rules)
+
+pub returns : goal.returns
+returns c = search (run_some, rules)
