@@ -19,7 +19,7 @@ use Rattle.rules.specs.declared.Core.{Core}
 use Rattle.rules.specs.Measure.{stack_holds}
 use Rattle.rules.specs.Findings.{is_clean}
 use Rattle.rules.specs.Number.{whole_part}
-use Rattle.rules.specs.Effects.{started_at, pushed, popped, barred, effect}
+use Rattle.rules.specs.Effects.{started_at, barred, effect}
 use Rattle.rules.specs.Acts.{beside_after}
 use Rattle.do_change.specs.declared.Change.{Change}
 use Rattle.do_change.specs.declared.Change.TheVariants.{Pushed, Popped, Barred}

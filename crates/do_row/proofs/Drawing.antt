@@ -34,7 +34,7 @@ use Rattle.do_seed.proofs.Drawing.{drawn_parts, row_parts, begun_raster, begun_a
 use Rattle.theorems.proofs.Lengths.{decoded_length}
 use Rattle.theorems.proofs.Soundness.{drop_zeros}
 use Rattle.common.proofs.Choices.{and_true, choice}
-use Rattle.do_deed.specs.Acted.{acted_of, acted, ActedOn}
+use Rattle.do_deed.specs.Acted.{acted_of, ActedOn}
 use Rattle.state_pen.specs.declared.Pen.{Pen}
 use Rattle.state_pen.specs.Pens.{core_of}
 use Rattle.do_deed.specs.declared.Deed.{Deed}

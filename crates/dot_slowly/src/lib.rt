@@ -9,7 +9,7 @@ use dot_lay::lay;
 
 // A place in a row that is painted dot by dot: so many dots are still to skip before the row begins; then bit `bit` of byte
 // `byte` is to be seen, and `done` dots of its square were seen before.
-#[derive(Drop)]
+#[derive(Clone, Copy)]
 struct Walk {
     skip: usize,
     byte: usize,

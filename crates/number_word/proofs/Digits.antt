@@ -1,10 +1,9 @@
 -- A word read digit by digit. Assumes nothing.
-use mathlib.Core.Path.{◌≡◌, refl, sym, ap, ◌∙◌}
-use mathlib.Core.List.{List, [], ◌∷◌}
-use Prim.Native.Nat.{ℕ, ◌+◌, ◌*◌, ◌-◌, ◌≤◌, ◌<◌, min}
+use mathlib.Core.Path.{◌≡◌, refl}
+use mathlib.Core.List.{List}
+use Prim.Native.Nat.{ℕ, ◌+◌, ◌≤◌, ◌<◌}
 use native.Mathlib.Omega.{arith}
 use lib.ListN.{length, drop, get_or, drop_of_length-le}
-use Rattle.common.specs.Choice.{within}
 use Rattle.common.proofs.Choices.{within_in, within_under, within_over}
 use Rattle.common.proofs.Places.{cut}
 use Rattle.number_word.specs.Words.{one_digit, digits_from, amount_word}

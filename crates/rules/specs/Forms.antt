@@ -1,5 +1,5 @@
 -- Paper 02, P1: a form of parked texts as data, its word and its members in their order. One writer and one reader (Park) serve every form.
-use Rattle.std.specs.Prelude.{ℕ, ◌/◌, Bool, true, false, List, [], ◌∷◌, eqb}
+use Rattle.std.specs.Prelude.{ℕ, Bool, true, false, List, [], ◌∷◌, eqb}
 use Rattle.common.specs.Choice.{flagged}
 use Rattle.rules.specs.declared.Measure.{Measure}
 use Rattle.rules.specs.declared.Spot.{Spot}

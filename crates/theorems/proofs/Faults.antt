@@ -8,7 +8,7 @@ use lib.ListN.{length, replicate}
 use lib.Dec.{eqb, leb, ltb}
 use Rattle.common.specs.Choice.{within, one_of}
 use Rattle.common.specs.Lists.{is_nil}
-use Rattle.common.proofs.Choices.{choice, choice_by}
+use Rattle.common.proofs.Choices.{choice}
 use Rattle.rules.specs.declared.Measure.{Measure}
 use Rattle.rules.specs.declared.Value.{Value}
 use Rattle.rules.specs.declared.Kind.{Kind}
@@ -34,7 +34,7 @@ use Rattle.rules.specs.Codes.{code_byte, escape_byte}
 use Rattle.rules.specs.Effects.{new_left, new_right, new_top, line_rates, barred}
 use Rattle.rules.specs.Items.{Item, text, code, two, command, broken, Reading, has_payload, payload, letter, parameter, group, behind_escape, is_text, read}
 use Rattle.rules.specs.Rows.{decoded}
-use Rattle.rules.specs.Acts.{Act, type, control, escape, order, print, draw, next_all, next, bar, gate, seed_now, Meaning, nothing_done, mean_code, mean_two, mean_row, mean_command, mean, done_of, Step, step_of, step}
+use Rattle.rules.specs.Acts.{Act, type, control, escape, order, print, draw, next_all, bar, gate, seed_now, Meaning, nothing_done, mean_code, mean_two, mean_row, mean_command, mean, done_of, Step, step_of, step}
 use Rattle.theorems.specs.Statements.{is_faulty, NothingDone, RowOfZeros, FindingsTable}
 use Rattle.theorems.proofs.Lengths.{damaged_zeros}
 use Rattle.theorems.proofs.Suffixes.{step_rest, step_took}

@@ -4,23 +4,23 @@
 #![tactic(auto)]
 
 use given::Given;
-use libc::{STDERR_FILENO, STDOUT_FILENO};
 
 // What a text holds, or the line of its refusal; whether it was written.
-fn write_unparked(s: &[u8]) -> bool {
+fn write_unparked(out: &impl Print, s: &[u8]) -> bool {
     let mut room = [0u8; 1979];
     let said = unpark_say::say_unparked(s, &mut room);
     let end = said.end;
-    io::write_all(STDOUT_FILENO, &room[..end])
+    out.write_all(&room[..end]).is_ok()
 }
 
-fn main() {
+fn main(rt: HostRuntime) {
+    let err = rt.stderr();
     let mut input = given::longest_input();
-    let Given::Job(n) = given::read_job(&mut input) else {
-        io::write_all(STDERR_FILENO, b"UNREAD\n");
+    let Given::Job(n) = given::read_job(&mut rt.stdin(), &mut input) else {
+        let _ = err.write_all(b"UNREAD\n");
         return;
     };
-    if !write_unparked(&input[..n]) {
-        io::write_all(STDERR_FILENO, b"UNWRITTEN\n");
+    if !write_unparked(&rt.stdout(), &input[..n]) {
+        let _ = err.write_all(b"UNWRITTEN\n");
     }
 }

@@ -69,8 +69,8 @@ names =
 -- a line for each member: its name and its number
 unfoldable pub member_lines : List (List ℕ) → List ℕ → List ℕ → List ℕ
 member_lines [] l s = s
-member_lines (name ∷ names) [] s = s
-member_lines (name ∷ names) (n ∷ l) s = line name (n ∷ []) (member_lines names l s)
+member_lines (name ∷ more) [] s = s
+member_lines (name ∷ more) (n ∷ l) s = line name (n ∷ []) (member_lines more l s)
 
 -- four of them, from place k on
 abbrev pub four_names : ℕ → List (List ℕ)

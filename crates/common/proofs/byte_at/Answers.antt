@@ -1,7 +1,6 @@
 -- `common::byte_at` meets its contract: past the end of a list `get_or` is its default. Assumes nothing.
 use mathlib.Core.Path.{sym}
 use lib.ListN.{get_or-eq_default}
-use borrow.Author.Rules.{rules}
 use Rattle.common.proofs.byte_at.Goals as goal
 
 pub returns-else-i-s : goal.returns-else-i-s

@@ -1,7 +1,6 @@
 -- `common::clear` meets its contract: after i turns the first i bytes are zero. Assumes nothing.
 use Prim.Native.Nat.{◌-◌}
-use borrow.Author.Rules.{rules}
-use Rattle.common.proofs.Clearing.{Clearing, clearing_starts, clearing_again, clearing_ends}
+use Rattle.common.proofs.Clearing.{Clearing}
 use Rattle.common.proofs.clear.Given as goal
 
 abbrev pub invariant-loop-i : goal.invariant-loop-i

@@ -1,8 +1,7 @@
 -- `do_text::typed_all` meets its contract. The loop's invariant: what is left, typed behind the cursor and the flag so far, makes the whole; the measure is what is left. Assumes nothing.
 use Prim.Native.Nat.{◌-◌}
 use lib.ListN.{length}
-use Rattle.do_text.proofs.Typing.{Typing, typing_first, typing_more, typing_ends}
-use borrow.Author.Rules.{rules}
+use Rattle.do_text.proofs.Typing.{Typing}
 use Rattle.do_text.proofs.typed_all.Given as goal
 
 abbrev pub invariant-loop-i : goal.invariant-loop-i

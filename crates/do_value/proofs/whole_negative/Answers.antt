@@ -1,6 +1,5 @@
 -- `do_value::whole_negative` meets its contract. Assumes nothing.
 use Rattle.rules.specs.Commands.{is_negative}
-use borrow.Author.Rules.{rules}
 use Rattle.do_value.proofs.whole_negative.Goals as goal
 
 pub returns : goal.returns

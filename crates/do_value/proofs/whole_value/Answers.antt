@@ -1,6 +1,5 @@
 -- `do_value::whole_value` meets its contract. Assumes nothing.
 use Rattle.rules.specs.Commands.{used_value}
-use borrow.Author.Rules.{rules}
 use Rattle.do_value.proofs.whole_value.Goals as goal
 
 pub returns : goal.returns

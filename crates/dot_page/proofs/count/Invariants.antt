@@ -1,9 +1,6 @@
 -- `dot_page::count` meets its contract: what is summed, and the ones still to come, are the ones of the page. Assumes nothing.
 use Prim.Native.Nat.{◌-◌}
-use native.Mathlib.Omega.{arith}
-use lib.Count.{ones-le}
-use borrow.Author.Rules.{rules}
-use Rattle.dot_page.proofs.Bytes.{Counting, counted_more, counted}
+use Rattle.dot_page.proofs.Bytes.{Counting}
 use Rattle.dot_page.proofs.count.Given as goal
 
 abbrev pub invariant-loop-i : goal.invariant-loop-i

@@ -1,11 +1,8 @@
 -- `dot_page::sixteen` meets its contract: what is summed, and the ones still to come, are the ones from the place on. Assumes nothing.
-use mathlib.Core.Path.{◌≡◌}
-use Prim.Native.Nat.{◌+◌, ◌-◌, ◌*◌, ◌≤◌}
+use Prim.Native.Nat.{◌+◌}
 use native.Mathlib.Omega.{arith}
 use lib.Count.{ones-le}
-use lib.ListN.{length, drop}
 use borrow.Author.Rules.{rules}
-use Rattle.common.specs.Bits.{ones_all}
 use Rattle.dot_page.proofs.Bytes.{ones_part, ones_pass, ones_sixteen}
 use Rattle.dot_page.proofs.sixteen.Goals as goal
 

@@ -1,7 +1,5 @@
 -- `number_word::amount_of_word` meets its contract. Assumes nothing.
-use Rattle.number_word.proofs.Digits.{Reads, reads_first, reads_end, reads_under, reads_over, reads_more}
-use lib.ListN.{length}
-use Prim.Native.Nat.{◌-◌}
+use Rattle.number_word.proofs.Digits.{reads_first, reads_end, reads_under, reads_over, reads_more}
 use borrow.Author.Rules.{rules}
 use Rattle.number_word.proofs.amount_of_word.Goals as goal
 

@@ -1,8 +1,7 @@
 -- `number_word::amount_of_word` meets its contract. Assumes nothing.
-use Rattle.number_word.proofs.Digits.{Reads, reads_first, reads_end, reads_under, reads_over, reads_more}
+use Rattle.number_word.proofs.Digits.{Reads}
 use lib.ListN.{length}
 use Prim.Native.Nat.{◌-◌}
-use borrow.Author.Rules.{rules}
 use Rattle.number_word.proofs.amount_of_word.Given as goal
 
 abbrev pub invariant-loop-i : goal.invariant-loop-i

@@ -1,6 +1,6 @@
 -- `number_write::fill_digits` meets its contract. The loop's invariant: with the digits that are left all are there; the measure is what is left. Assumes nothing.
 use borrow.Author.Rules.{rules}
-use Rattle.number_write.proofs.Writing.{Filling, filling_start, filling_more, filling_again, filling_end}
+use Rattle.number_write.proofs.Writing.{filling_start, filling_more, filling_again, filling_end}
 use Rattle.number_write.proofs.fill_digits.Goals as goal
 
 pub loop-left-init : goal.loop-left-init

@@ -1,6 +1,5 @@
 -- `number_write::fill_digits` meets its contract. The loop's invariant: with the digits that are left all are there; the measure is what is left. Assumes nothing.
-use borrow.Author.Rules.{rules}
-use Rattle.number_write.proofs.Writing.{Filling, filling_start, filling_more, filling_again, filling_end}
+use Rattle.number_write.proofs.Writing.{Filling}
 use Rattle.number_write.proofs.fill_digits.Given as goal
 
 abbrev pub invariant-loop-left : goal.invariant-loop-left

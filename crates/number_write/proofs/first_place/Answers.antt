@@ -1,6 +1,5 @@
 -- `number_write::first_place` meets its contract: the place is a digit. Assumes nothing.
 use native.Mathlib.Omega.{arith}
-use borrow.Author.Rules.{rules}
 use Rattle.number_write.proofs.Writing.{first_digit}
 use Rattle.number_write.proofs.first_place.Goals as goal
 

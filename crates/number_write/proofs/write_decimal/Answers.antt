@@ -1,9 +1,6 @@
 -- `number_write::write_decimal` meets its contract. The loop's invariant: with the digits that are left all are written. Assumes nothing.
-use mathlib.Core.Path.{◌≡◌}
-use Prim.Native.Nat.{◌-◌, ◌≤◌}
-use lib.ListN.{length}
 use borrow.Author.Rules.{rules}
-use Rattle.number_write.proofs.Writing.{Copying, copying_start, copying_again, wrote_digits}
+use Rattle.number_write.proofs.Writing.{copying_start, copying_again, wrote_digits}
 use Rattle.number_write.proofs.write_decimal.Goals as goal
 
 pub loop-i-init : goal.loop-i-init

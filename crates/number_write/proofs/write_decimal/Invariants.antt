@@ -2,8 +2,7 @@
 use mathlib.Core.Path.{◌≡◌}
 use Prim.Native.Nat.{◌-◌, ◌≤◌}
 use lib.ListN.{length}
-use borrow.Author.Rules.{rules}
-use Rattle.number_write.proofs.Writing.{Copying, copying_start, copying_again, wrote_digits}
+use Rattle.number_write.proofs.Writing.{Copying}
 use Rattle.number_write.proofs.write_decimal.Given as goal
 
 abbrev pub invariant-loop-i : goal.invariant-loop-i

@@ -1,6 +1,6 @@
 -- `number_write::write_places` meets its contract. The loop's invariant: with the places that are left all are written; the measure is their unit. Assumes nothing.
 use borrow.Author.Rules.{rules}
-use Rattle.number_write.proofs.Writing.{Leaving, leaving_start, leaving_again, leaving_end}
+use Rattle.number_write.proofs.Writing.{leaving_start, leaving_again, leaving_end}
 use Rattle.number_write.proofs.write_places.Goals as goal
 
 pub loop-left-init : goal.loop-left-init

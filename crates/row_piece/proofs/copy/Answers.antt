@@ -1,7 +1,6 @@
 -- `row_piece::copy` meets its contract: the loop's invariant: k of the bytes that fit are stored. The measure is how many are left. Assumes nothing.
-use Prim.Native.Nat.{◌-◌}
 use borrow.Author.Rules.{rules}
-use Rattle.row_piece.proofs.Clips.{Copying, copying_none, copying_more, copying_end, nearer}
+use Rattle.row_piece.proofs.Clips.{copying_none, copying_more, copying_end, nearer}
 use Rattle.row_piece.proofs.copy.Goals as goal
 
 pub loop-k-init : goal.loop-k-init

@@ -1,7 +1,6 @@
 -- `row_piece::copy_blocks` meets its contract: k of the bytes are copied. Assumes nothing.
 use Prim.Native.Nat.{◌-◌}
-use borrow.Author.Rules.{rules}
-use Rattle.row_piece.proofs.Texts.{Blocks, blocks_none, blocks_more, blocks_end}
+use Rattle.row_piece.proofs.Texts.{Blocks}
 use Rattle.row_piece.proofs.copy_blocks.Given as goal
 
 abbrev pub invariant-loop-k : goal.invariant-loop-k

@@ -1,7 +1,6 @@
 -- `row_piece::four_at` meets its contract: k of the bytes are taken. Assumes nothing.
 use Prim.Native.Nat.{◌-◌}
-use borrow.Author.Rules.{rules}
-use Rattle.row_piece.proofs.Clips.{Taking, taking_none, taking_more, taking_end, nearer}
+use Rattle.row_piece.proofs.Clips.{Taking}
 use Rattle.row_piece.proofs.four_at.Given as goal
 
 abbrev pub invariant-loop-k : goal.invariant-loop-k

@@ -1,7 +1,6 @@
 -- `row_piece::put_four` meets its contract: k of the bytes are stored. Assumes nothing.
-use Prim.Native.Nat.{◌-◌}
 use borrow.Author.Rules.{rules}
-use Rattle.row_piece.proofs.Clips.{Copying, putting_none, putting_more, putting_end, nearer}
+use Rattle.row_piece.proofs.Clips.{putting_none, putting_more, putting_end, nearer}
 use Rattle.row_piece.proofs.put_four.Goals as goal
 
 pub loop-k-init : goal.loop-k-init

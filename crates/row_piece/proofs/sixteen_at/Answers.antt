@@ -1,7 +1,6 @@
 -- `row_piece::sixteen_at` meets its contract: k of the bytes are taken. Assumes nothing.
-use Prim.Native.Nat.{◌-◌}
 use borrow.Author.Rules.{rules}
-use Rattle.row_piece.proofs.Clips.{Taking, taking_none, taking_more, taking_end, nearer}
+use Rattle.row_piece.proofs.Clips.{taking_none, taking_more, taking_end, nearer}
 use Rattle.row_piece.proofs.sixteen_at.Goals as goal
 
 pub loop-k-init : goal.loop-k-init

@@ -1,8 +1,4 @@
 -- `state_load::seed_at` meets its contract. Assumes nothing.
-use mathlib.Core.Path.{◌≡◌}
-use mathlib.Core.List.{◌++◌}
-use Prim.Native.Nat.{◌+◌, ◌-◌, ◌≤◌}
-use lib.ListN.{get_or, replicate}
 use Rattle.state_load.specs.Kept.{table}
 use Rattle.state_load.proofs.Tables.{table_more, table_all}
 use borrow.Author.Rules.{rules}

@@ -4,8 +4,6 @@ use mathlib.Core.List.{◌++◌}
 use Prim.Native.Nat.{◌+◌, ◌-◌, ◌≤◌}
 use lib.ListN.{get_or, replicate}
 use Rattle.state_load.specs.Kept.{table}
-use Rattle.state_load.proofs.Tables.{table_more, table_all}
-use borrow.Author.Rules.{rules}
 use Rattle.state_load.proofs.seed_at.Given as goal
 
 abbrev pub invariant-loop-i : goal.invariant-loop-i

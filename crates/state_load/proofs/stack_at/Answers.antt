@@ -1,11 +1,6 @@
 -- `state_load::stack_at` meets its contract. Assumes nothing.
-use mathlib.Core.Path.{◌≡◌}
-use mathlib.Core.List.{◌++◌}
-use Prim.Native.Nat.{◌+◌, ◌*◌, ◌-◌, ◌≤◌}
-use lib.ListN.{replicate}
-use Rattle.state_load.specs.Kept.{spot_at, table}
+use Rattle.state_load.specs.Kept.{table}
 use Rattle.state_load.proofs.Tables.{table_more, table_all}
-use Rattle.rules.specs.Measure.{spot}
 use borrow.Author.Rules.{rules}
 use Rattle.state_load.proofs.stack_at.Goals as goal
 

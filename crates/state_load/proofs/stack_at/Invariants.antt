@@ -4,9 +4,7 @@ use mathlib.Core.List.{◌++◌}
 use Prim.Native.Nat.{◌+◌, ◌*◌, ◌-◌, ◌≤◌}
 use lib.ListN.{replicate}
 use Rattle.state_load.specs.Kept.{spot_at, table}
-use Rattle.state_load.proofs.Tables.{table_more, table_all}
 use Rattle.rules.specs.Measure.{spot}
-use borrow.Author.Rules.{rules}
 use Rattle.state_load.proofs.stack_at.Given as goal
 
 abbrev pub invariant-loop-i : goal.invariant-loop-i

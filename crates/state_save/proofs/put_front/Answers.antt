@@ -1,6 +1,5 @@
 -- `state_save::put_front` meets its contract. Assumes nothing.
 use Rattle.state_save.proofs.Puts.{wrote_front, wrote_inside}
-use borrow.Author.Rules.{rules}
 use Rattle.state_save.proofs.put_front.Goals as goal
 
 pub returns : goal.returns

@@ -1,8 +1,4 @@
 -- `state_save::put_seed` meets its contract. Assumes nothing.
-use mathlib.Core.Path.{◌≡◌}
-use Prim.Native.Nat.{◌-◌, ◌≤◌}
-use lib.ListN.{length, take}
-use Rattle.common.specs.Stores.{Wrote}
 use Rattle.common.proofs.Stores.{wrote_none}
 use Rattle.state_save.proofs.Puts.{wrote_next, wrote_all}
 use borrow.Author.Rules.{rules}

@@ -3,9 +3,6 @@ use mathlib.Core.Path.{◌≡◌}
 use Prim.Native.Nat.{◌-◌, ◌≤◌}
 use lib.ListN.{length, take}
 use Rattle.common.specs.Stores.{Wrote}
-use Rattle.common.proofs.Stores.{wrote_none}
-use Rattle.state_save.proofs.Puts.{wrote_next, wrote_all}
-use borrow.Author.Rules.{rules}
 use Rattle.state_save.proofs.put_seed.Given as goal
 
 abbrev pub invariant-loop-i : goal.invariant-loop-i

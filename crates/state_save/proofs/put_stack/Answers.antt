@@ -1,9 +1,6 @@
 -- `state_save::put_stack` meets its contract. Assumes nothing.
 use Rattle.rules.specs.Measure.{spot}
-use mathlib.Core.Path.{◌≡◌, refl, ◌∙◌}
-use Prim.Native.Nat.{◌-◌, ◌≤◌}
-use lib.ListN.{length, take}
-use Rattle.common.specs.Stores.{Wrote}
+use mathlib.Core.Path.{refl, ◌∙◌}
 use Rattle.common.proofs.Stores.{wrote_none}
 use Rattle.state_load.specs.Kept.{stack_bytes}
 use Rattle.state_save.proofs.Puts.{wrote_place, wrote_places}

@@ -1,9 +1,5 @@
 -- `state_sound::stack_free` meets its contract. The loop's invariant: all are free if those from i on are; the measure is what is left. Assumes nothing.
-use mathlib.Core.Path.{◌≡◌}
-use Prim.Native.Nat.{◌-◌}
-use lib.ListN.{length, drop}
 use Rattle.common.proofs.Lists.{mapped}
-use Rattle.rules.specs.Sound.{all_free}
 use Rattle.state_sound.proofs.Loops.{free_passes, free_fails, free_ends}
 use borrow.Author.Rules.{rules}
 use Rattle.state_sound.proofs.stack_free.Goals as goal

@@ -2,10 +2,7 @@
 use mathlib.Core.Path.{◌≡◌}
 use Prim.Native.Nat.{◌-◌}
 use lib.ListN.{length, drop}
-use Rattle.common.proofs.Lists.{mapped}
 use Rattle.rules.specs.Sound.{all_free}
-use Rattle.state_sound.proofs.Loops.{free_passes, free_fails, free_ends}
-use borrow.Author.Rules.{rules}
 use Rattle.state_sound.proofs.stack_free.Given as goal
 
 abbrev pub invariant-loop-i : goal.invariant-loop-i

@@ -1,9 +1,5 @@
 -- `state_sound::stack_in_page` meets its contract. The loop's invariant: all are in the page if those from i on are; the measure is what is left. Assumes nothing.
-use mathlib.Core.Path.{◌≡◌}
-use Prim.Native.Nat.{◌-◌}
-use lib.ListN.{length, take, drop}
 use Rattle.common.proofs.Lists.{mapped}
-use Rattle.rules.specs.Sound.{all_in_page}
 use Rattle.state_sound.proofs.Loops.{in_page-passes, in_page-fails, in_page-ends}
 use borrow.Author.Rules.{rules}
 use Rattle.state_sound.proofs.stack_in_page.Goals as goal

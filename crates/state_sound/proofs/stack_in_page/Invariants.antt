@@ -2,10 +2,7 @@
 use mathlib.Core.Path.{◌≡◌}
 use Prim.Native.Nat.{◌-◌}
 use lib.ListN.{length, take, drop}
-use Rattle.common.proofs.Lists.{mapped}
 use Rattle.rules.specs.Sound.{all_in_page}
-use Rattle.state_sound.proofs.Loops.{in_page-passes, in_page-fails, in_page-ends}
-use borrow.Author.Rules.{rules}
 use Rattle.state_sound.proofs.stack_in_page.Given as goal
 
 abbrev pub invariant-loop-i : goal.invariant-loop-i

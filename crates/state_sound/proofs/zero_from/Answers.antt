@@ -1,8 +1,4 @@
 -- `state_sound::zero_from` meets its contract. The loop's invariant: all are zero if those from i on are; the measure is what is left. Assumes nothing.
-use mathlib.Core.Path.{◌≡◌}
-use Prim.Native.Nat.{◌-◌}
-use lib.ListN.{length, drop}
-use Rattle.rules.specs.Sound.{all_zero}
 use Rattle.state_sound.proofs.Loops.{zero_passes, zero_fails, zero_ends}
 use borrow.Author.Rules.{rules}
 use Rattle.state_sound.proofs.zero_from.Goals as goal

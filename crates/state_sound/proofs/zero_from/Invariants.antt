@@ -3,8 +3,6 @@ use mathlib.Core.Path.{◌≡◌}
 use Prim.Native.Nat.{◌-◌}
 use lib.ListN.{length, drop}
 use Rattle.rules.specs.Sound.{all_zero}
-use Rattle.state_sound.proofs.Loops.{zero_passes, zero_fails, zero_ends}
-use borrow.Author.Rules.{rules}
 use Rattle.state_sound.proofs.zero_from.Given as goal
 
 abbrev pub invariant-loop-i : goal.invariant-loop-i

@@ -1,0 +1,13 @@
+-- `do_command::do_valued` meets its contract. Assumes nothing.
+use Rattle.do_command.proofs.Commands.{negative_deed, valued_deed, change_placed}
+use borrow.Author.Rules.{rules}
+use Rattle.do_command.proofs.do_valued.Goals as goal
+
+pub returns-then-is_negative : goal.returns-then-is_negative
+returns-then-is_negative c = negative_deed _ _ _ _ _ _ _ c.is_negative.ensures c.if-is_negative.true c.kept.ensures _
+
+pub make-requires : goal.make-requires
+make-requires c = change_placed _ _ _ _ _ _ _ _ c.requires.1 c.changed-d.ensures
+
+pub returns : goal.returns
+returns c = valued_deed _ _ _ _ _ _ _ _ _ _ _ c.is_negative.ensures c.if-is_negative.false c.used_value.ensures c.requires.1 c.changed-d.ensures c.make.ensures

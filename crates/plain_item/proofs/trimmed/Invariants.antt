@@ -1,0 +1,10 @@
+-- `plain_item::trimmed` meets its contract. Assumes nothing.
+use Rattle.plain_item.proofs.Trimming.{Trims, trims_used, trims_more, trims_found, trims_none}
+use borrow.Author.Rules.{rules}
+use Rattle.plain_item.proofs.trimmed.Given as goal
+
+abbrev pub invariant-loop-n : goal.invariant-loop-n
+invariant-loop-n l = Trims l.row l.n
+
+abbrev pub decreases-loop-n : goal.decreases-loop-n
+decreases-loop-n l = l.n
