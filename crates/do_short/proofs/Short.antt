@@ -28,7 +28,6 @@ use Rattle.do_short.specs.declared.Coding.{Coding}
 use Rattle.do_short.specs.declared.Coding.TheVariants as coding
 use Rattle.do_short.specs.declared.Escaping.{Escaping}
 use Rattle.do_short.specs.declared.Escaping.TheVariants as escaping
-use Rattle.do_deed.specs.Acted.{acted}
 use Rattle.do_short.specs.Meant.{code_of, escape_of, is_command}
 use Rattle.rules.specs.declared.Layout.{Layout}
 use Rattle.do_text.specs.Cursor.{typed_pen}

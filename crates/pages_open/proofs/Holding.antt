@@ -1,5 +1,5 @@
 -- What is written before the pages of a job, and that the room is always large enough. Assumes nothing.
-use mathlib.Core.Path.{◌≡◌, refl, sym, ◌∙◌, ap}
+use mathlib.Core.Path.{◌≡◌, sym, ◌∙◌, ap}
 use Prim.Native.Nat.{ℕ, ◌+◌, ◌≤◌, ◌<◌}
 use native.Mathlib.Omega.{arith}
 use mathlib.Core.List.{List, [], ◌∷◌}
@@ -18,8 +18,7 @@ use Rattle.number_write.proofs.Laws.{decimal_append, decimal_short}
 use Rattle.report_line.proofs.Texts.{line_append}
 use Rattle.report_laws.proofs.Bound.{number_length, two_length, refused_most}
 use Rattle.report_laws.proofs.Whole.{held, held_once}
-use Rattle.pages_open.specs.declared.Beginning.{Beginning}
-use Rattle.pages_open.specs.Opening.{longest_head, longest_lines, pbm_head, first_lines, job_refused, Begins, OneHead, OneOpening}
+use Rattle.pages_open.specs.Opening.{longest_head, longest_lines, pbm_head, first_lines, Begins, OneHead, OneOpening}
 
 -- ---- how long
 -- two numbers of at most twenty digits

@@ -21,8 +21,7 @@ use Rattle.rules.specs.States.{afresh}
 use Rattle.rules.specs.Findings.{finding_number, refusal_number, is_clean}
 use Rattle.rules.specs.Plain.{decimal_up_to, decimal}
 use Rattle.rules.specs.Acts.{World, world, step, over, show_all}
-use Rattle.rules.specs.Run.{whole_stream, first_world}
-use Rattle.rules.specs.Report.{faults, fields, line, SIZE, refused_line, report_width, report_height, report_limit, report_page, report, PAGE, END, fault, page_lines, last_lines, counted, fault_alone, stream_lines}
+use Rattle.rules.specs.Report.{fields, line, SIZE, refused_line, report_width, report_height, report_limit, report_page, report, PAGE, END, fault, page_lines, last_lines, counted, fault_alone, stream_lines}
 use Rattle.number_write.proofs.Laws.{decimal_append, decimal_short}
 use Rattle.theorems.proofs.Reading.{left, left_zero}
 use Rattle.theorems.proofs.Streams.{step_left}

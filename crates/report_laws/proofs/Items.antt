@@ -16,7 +16,7 @@ use Rattle.rules.specs.Measure.{blank}
 use Rattle.rules.specs.States.{afresh}
 use Rattle.rules.specs.Acts.{World, world, show_all, next_all, Done, Step, step, over}
 use Rattle.rules.specs.Run.{page_of, Trace, trace, enough, whole_stream}
-use Rattle.rules.specs.Report.{fault, page_lines, faults, last_lines, item_lines, Saying, counted, fault_alone, stream_lines, told}
+use Rattle.rules.specs.Report.{page_lines, faults, last_lines, item_lines, Saying, counted, stream_lines, told}
 use Rattle.theorems.proofs.Reading.{left}
 use Rattle.theorems.proofs.Streams.{step_left, to_end}
 use Rattle.theorems.proofs.Pages.{step_single, after_item, item_pages, show_all-core}

@@ -13,7 +13,7 @@ use Rattle.rules.specs.declared.Verdict.{Verdict}
 use Rattle.rules.specs.declared.Verdict.TheVariants.{Carried, Refused}
 use Rattle.rules.specs.Report.{refused_line}
 use Rattle.report_verdict.specs.declared.Saying.{Saying}
-use Rattle.report_verdict.specs.Said.{SaysVerdict, Leaves, said_by, SaysText}
+use Rattle.report_verdict.specs.Said.{SaysVerdict, Leaves, SaysText}
 
 abbrev saying_of : Bool → ℕ → Saying
 saying_of t n = record { refused = t; end = n }

@@ -1,6 +1,6 @@
 -- A call of a run: its refusals in their order, and the run on the page's part of the buffer. Assumes nothing.
 use mathlib.Core.Path.{◌≡◌, sym, ap, ◌∙◌}
-use mathlib.Core.Bool.{Bool, true, false, not}
+use mathlib.Core.Bool.{Bool, true, false}
 use mathlib.Core.List.{List, ◌++◌}
 use Prim.Native.Nat.{ℕ, ◌+◌, ◌*◌, ◌-◌, ◌≤◌, ◌<◌}
 use native.Mathlib.Omega.{arith}
@@ -9,7 +9,7 @@ use mir.Syntax.{w64}
 use mir.Val as val
 use lib.Seq.{length-take-le}
 use lib.ListN.{length, take, drop}
-use borrow.Author.Tests.{not-true, not-false, lt-ltb, le-ltb}
+use borrow.Author.Tests.{lt-ltb, le-ltb}
 use Rattle.rules.specs.declared.Measure.{Measure}
 use Rattle.rules.specs.declared.Refusal.{Refusal}
 use Rattle.rules.specs.declared.Refusal.TheVariants.{PageMeasure, PageBuffer, StreamLength, UnsoundState, StartPlace}
@@ -25,12 +25,12 @@ use Rattle.theorems.proofs.Sound.{state_facts}
 use Rattle.run_items.specs.Turns.{RunsOn}
 
 -- the measure as the paper allows it
-pub fits : (W H : ℕ) (x : Bool) → x ≡ allowed W H → not x ≡ false → (g : Measure) → g ≡ measure_of W H → Fits g
-fits W H x a a₁ g m = rw m (allowed_gives W H (sym a ∙ not-false x a₁)).fits
+pub fits : (W H : ℕ) (x : Bool) → x ≡ allowed W H → x ≡ true → (g : Measure) → g ≡ measure_of W H → Fits g
+fits W H x a a₁ g m = rw m (allowed_gives W H (sym a ∙ a₁)).fits
 
 -- the state as the paper has it sound
-pub is_sound : (g : Measure) (t : State) (y : Bool) → y ≡ sound g t → not y ≡ false → SoundState g t
-is_sound g t y d d₁ = state_facts g t (sym d ∙ not-false y d₁)
+pub is_sound : (g : Measure) (t : State) (y : Bool) → y ≡ sound g t → y ≡ true → SoundState g t
+is_sound g t y d d₁ = state_facts g t (sym d ∙ d₁)
 
 module _ (W H : ℕ) (buffer stream : List ℕ) (t : State) (at allow : ℕ) (r : Ran) (x : Bool) (a : x ≡ allowed W H) where
   -- what a refusal gives
@@ -38,17 +38,17 @@ module _ (W H : ℕ) (buffer stream : List ℕ) (t : State) (at allow : ℕ) (r 
   Gives why = (b : List ℕ) → r ≡ (refused why t at b).ran
 
   -- 10
-  pub no_measure : not x ≡ true → Gives PageMeasure → RunPromise W H buffer stream t at allow r buffer
+  pub no_measure : x ≡ false → Gives PageMeasure → RunPromise W H buffer stream t at allow r buffer
   unfolding answer
-  no_measure e h = record { given = rw (← a, not-true x e) (h buffer); lent = rw (← a, not-true x e) }
+  no_measure e h = record { given = rw (← a, e) (h buffer); lent = rw (← a, e) }
 
-  module _ (a₁ : not x ≡ false) (g : Measure) (m : g ≡ measure_of W H) where
+  module _ (a₁ : x ≡ true) (g : Measure) (m : g ≡ measure_of W H) where
     -- 11
     pub no_buffer : length buffer < g.high * g.wide → Gives PageBuffer → RunPromise W H buffer stream t at allow r buffer
     unfolding answer
     no_buffer e h =
         let z = lt-ltb (length buffer) (page_bytes (measure_of W H)) (rw m at e) in
-        record { given = rw (← a, not-false x a₁, z) (h buffer); lent = rw (← a, not-false x a₁, z) }
+        record { given = rw (← a, a₁, z) (h buffer); lent = rw (← a, a₁, z) }
 
     module _ (b : g.high * g.wide ≤ length buffer) where
       -- 12
@@ -57,19 +57,19 @@ module _ (W H : ℕ) (buffer stream : List ℕ) (t : State) (at allow : ℕ) (r 
       no_stream e h =
           let y = le-ltb (length buffer) (page_bytes (measure_of W H)) (rw m at b) in
           let z = lt-ltb longest_stream (length stream) e in
-          record { given = rw (← a, not-false x a₁, y, z) (h buffer); lent = rw (← a, not-false x a₁, y, z) }
+          record { given = rw (← a, a₁, y, z) (h buffer); lent = rw (← a, a₁, y, z) }
 
       module _ (c : length stream ≤ longest_stream) (y : Bool) (d : y ≡ sound g t) where
         -- 13
-        pub no_state_lem : not y ≡ true → Gives UnsoundState → RunPromise W H buffer stream t at allow r buffer
+        pub no_state_lem : y ≡ false → Gives UnsoundState → RunPromise W H buffer stream t at allow r buffer
         unfolding answer
         no_state_lem e h =
             let u = le-ltb (length buffer) (page_bytes (measure_of W H)) (rw m at b) in
             let w : y ≡ sound (measure_of W H) t = rw m at d in
             let v = le-ltb longest_stream (length stream) c in
-            record { given = rw (← a, not-false x a₁, u, v, ← w, not-true y e) (h buffer); lent = rw (← a, not-false x a₁, u, v, ← w, not-true y e) }
+            record { given = rw (← a, a₁, u, v, ← w, e) (h buffer); lent = rw (← a, a₁, u, v, ← w, e) }
 
-        module _ (d₁ : not y ≡ false) where
+        module _ (d₁ : y ≡ true) where
           -- 14
           pub no_place : length stream < at → Gives StartPlace → RunPromise W H buffer stream t at allow r buffer
           unfolding answer
@@ -78,7 +78,7 @@ module _ (W H : ℕ) (buffer stream : List ℕ) (t : State) (at allow : ℕ) (r 
               let w : y ≡ sound (measure_of W H) t = rw m at d in
               let v = le-ltb longest_stream (length stream) c in
               let z = lt-ltb (length stream) at e in
-              record { given = rw (← a, not-false x a₁, u, v, ← w, not-false y d₁, z) (h buffer); lent = rw (← a, not-false x a₁, u, v, ← w, not-false y d₁, z) }
+              record { given = rw (← a, a₁, u, v, ← w, d₁, z) (h buffer); lent = rw (← a, a₁, u, v, ← w, d₁, z) }
 
           -- carried out, on the page's part of the buffer
           pub carried : (part : List ℕ) (n : ℕ) → n ≡ page_bytes g → at ≤ length stream → RunsOn (run g allow t at (take n buffer) stream) r part
@@ -91,8 +91,8 @@ module _ (W H : ℕ) (buffer stream : List ℕ) (t : State) (at allow : ℕ) (r 
               let z = le-ltb (length stream) at e in
               let q : n ≡ page_bytes (measure_of W H) = rw m at f in
               record {
-                given = rw (← a, not-false x a₁, u, v, ← w, not-false y d₁, z, ← q) (rw m at h.given);
-                lent = rw (← a, not-false x a₁, u, v, ← w, not-false y d₁, z, ← q) (rw m at (ap (λ (l : List ℕ). l ++ drop n buffer) h.lent));
+                given = rw (← a, a₁, u, v, ← w, d₁, z, ← q) (rw m at h.given);
+                lent = rw (← a, a₁, u, v, ← w, d₁, z, ← q) (rw m at (ap (λ (l : List ℕ). l ++ drop n buffer) h.lent));
               }
 
 -- the bytes of a page are few

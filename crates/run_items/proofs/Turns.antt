@@ -1,7 +1,7 @@
 -- A run, item by item: what one turn of its loop does to what is left to do. Assumes nothing.
 use mathlib.Core.Path.{◌≡◌, refl, sym, ap, ◌∙◌}
 use mathlib.Core.Bool.{Bool, true, false, cond, not, ◌&&◌, false≢true}
-use mathlib.Core.List.{List, [], ◌∷◌}
+use mathlib.Core.List.{List}
 use Prim.Native.Nat.{ℕ, suc, ◌+◌, ◌-◌, ◌≤◌, ◌<◌}
 use native.Mathlib.Nat.{sub-zero}
 use native.Mathlib.Omega.{arith}
@@ -26,7 +26,7 @@ use Rattle.rules.specs.States.{state_of}
 use Rattle.rules.specs.Items as rule
 use Rattle.rules.specs.Items.{is_text, reading, read}
 use Rattle.rules.specs.Acts.{mean, step, is_closed, over}
-use Rattle.rules.specs.Run.{Outcome, outcome, halted, page_of, place_of, spot_of, run_from, run}
+use Rattle.rules.specs.Run.{Outcome, outcome, halted, page_of, place_of, spot_of, run_from}
 use Rattle.rules.specs.declared.Spot.{Spot}
 use Rattle.read_item.specs.declared.Item.TheVariants as found
 use Rattle.read_item.specs.declared.ReadItem.{ReadItem}

@@ -1,6 +1,5 @@
 -- `do_command::do_method` meets its contract. Assumes nothing.
 use Rattle.do_command.proofs.Commands.{method_barred, method_none, method_deed}
-use borrow.Author.Rules.{rules}
 use Rattle.do_command.proofs.do_method.Goals as goal
 
 pub returns-then-whole_negative : goal.returns-then-whole_negative

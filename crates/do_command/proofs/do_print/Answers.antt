@@ -1,6 +1,5 @@
 -- `do_command::do_print` meets its contract. Assumes nothing.
 use Rattle.do_command.proofs.Commands.{print_barred, print_deed}
-use borrow.Author.Rules.{rules}
 use Rattle.do_command.proofs.do_print.Goals as goal
 
 pub returns-then-whole_negative : goal.returns-then-whole_negative

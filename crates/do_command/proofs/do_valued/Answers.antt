@@ -1,6 +1,5 @@
 -- `do_command::do_valued` meets its contract. Assumes nothing.
 use Rattle.do_command.proofs.Commands.{negative_deed, valued_deed, change_placed}
-use borrow.Author.Rules.{rules}
 use Rattle.do_command.proofs.do_valued.Goals as goal
 
 pub returns-then-is_negative : goal.returns-then-is_negative

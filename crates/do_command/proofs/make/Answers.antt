@@ -1,7 +1,6 @@
 -- `do_command::make` meets its contract. Assumes nothing.
 use native.Mathlib.Omega.{arith}
 use Rattle.do_command.proofs.Commands.{made_to, made_laid, made_drawn, made_fresh, made_reset, made_pushed, made_popped, made_barred, push_fits, pop_fits}
-use borrow.Author.Rules.{rules}
 use Rattle.do_command.proofs.make.Goals as goal
 
 pub overflow_add-pen : goal.overflow_add-pen

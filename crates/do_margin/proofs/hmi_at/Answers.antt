@@ -1,6 +1,5 @@
 -- `do_margin::hmi_at` meets its contract. Assumes nothing.
 use Rattle.do_margin.proofs.Margins.{hmi}
-use borrow.Author.Rules.{rules}
 use Rattle.do_margin.proofs.hmi_at.Goals as goal
 
 pub returns : goal.returns

@@ -2,7 +2,6 @@
 use Rattle.rules.specs.Acts.{mean}
 use Rattle.do_short.proofs.Short.{bytes_told, bytes_broken, no_command}
 use mathlib.Core.Path.{refl}
-use borrow.Author.Rules.{rules}
 use Rattle.do_short.proofs.do_bytes.Goals as goal
 
 pub returns-in-Text : goal.returns-in-Text

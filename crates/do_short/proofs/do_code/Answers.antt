@@ -1,6 +1,5 @@
 -- `do_short::do_code` meets its contract. Assumes nothing.
 use Rattle.do_short.proofs.Short.{code_deed}
-use borrow.Author.Rules.{rules}
 use Rattle.do_short.proofs.do_code.Goals as goal
 
 pub returns : goal.returns

@@ -1,6 +1,5 @@
 -- `do_short::do_code_byte` meets its contract. Assumes nothing.
 use Rattle.do_short.proofs.Short.{code_byte_lem, code_other}
-use borrow.Author.Rules.{rules}
 use Rattle.do_short.proofs.do_code_byte.Goals as goal
 
 pub returns-in_default : goal.returns-in_default

@@ -1,6 +1,5 @@
 -- `do_short::do_escape` meets its contract. Assumes nothing.
 use Rattle.do_short.proofs.Short.{escape_told}
-use borrow.Author.Rules.{rules}
 use Rattle.do_short.proofs.do_escape.Goals as goal
 
 pub returns-in-Reset : goal.returns-in-Reset

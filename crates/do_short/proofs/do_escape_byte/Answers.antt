@@ -1,6 +1,5 @@
 -- `do_short::do_escape_byte` meets its contract. Assumes nothing.
 use Rattle.do_short.proofs.Short.{escape_byte_lem, escape_other}
-use borrow.Author.Rules.{rules}
 use Rattle.do_short.proofs.do_escape_byte.Goals as goal
 
 pub returns-in_default : goal.returns-in_default

@@ -1,6 +1,5 @@
 -- `do_short::do_half_line` meets its contract. Assumes nothing.
 use Rattle.do_short.proofs.Short.{half_deed}
-use borrow.Author.Rules.{rules}
 use Rattle.do_short.proofs.do_half_line.Goals as goal
 
 pub returns : goal.returns

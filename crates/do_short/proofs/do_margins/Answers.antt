@@ -1,6 +1,5 @@
 -- `do_short::do_margins` meets its contract. Assumes nothing.
 use Rattle.do_short.proofs.Short.{margins_deed}
-use borrow.Author.Rules.{rules}
 use Rattle.do_short.proofs.do_margins.Goals as goal
 
 pub returns : goal.returns

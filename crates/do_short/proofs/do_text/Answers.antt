@@ -1,6 +1,5 @@
 -- `do_short::do_text` meets its contract. Assumes nothing.
 use Rattle.do_short.proofs.Short.{text_deed}
-use borrow.Author.Rules.{rules}
 use Rattle.do_short.proofs.do_text.Goals as goal
 
 pub returns : goal.returns

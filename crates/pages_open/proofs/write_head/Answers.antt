@@ -1,5 +1,4 @@
 -- `pages_open::write_head` meets its contract. The facts are named by their places, since a search does not reach through so many. Assumes nothing.
-use borrow.Author.Rules.{rules}
 use Rattle.pages_open.proofs.Holding.{wrote_head}
 use Rattle.pages_open.proofs.write_head.Goals as goal
 

@@ -1,5 +1,5 @@
 -- `plain_item::trimmed` meets its contract. Assumes nothing.
-use Rattle.plain_item.proofs.Trimming.{Trims, trims_used, trims_more, trims_found, trims_none}
+use Rattle.plain_item.proofs.Trimming.{trims_used, trims_more, trims_found, trims_none}
 use borrow.Author.Rules.{rules}
 use Rattle.plain_item.proofs.trimmed.Goals as goal
 

@@ -1,6 +1,5 @@
 -- `plain_item::trimmed` meets its contract. Assumes nothing.
-use Rattle.plain_item.proofs.Trimming.{Trims, trims_used, trims_more, trims_found, trims_none}
-use borrow.Author.Rules.{rules}
+use Rattle.plain_item.proofs.Trimming.{Trims}
 use Rattle.plain_item.proofs.trimmed.Given as goal
 
 abbrev pub invariant-loop-n : goal.invariant-loop-n

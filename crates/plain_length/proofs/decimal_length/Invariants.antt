@@ -1,7 +1,5 @@
 -- `plain_length::decimal_length` meets its contract. The loop's invariant: the digits counted and those left are one more than all; the measure is what is left. Assumes nothing.
-use borrow.Author.Rules.{rules}
-use Rattle.number_write.proofs.Laws.{decimal_short, decimal_some}
-use Rattle.plain_length.proofs.Counting.{Numbering, numbering_again, numbering_end}
+use Rattle.plain_length.proofs.Counting.{Numbering}
 use Rattle.plain_length.proofs.decimal_length.Given as goal
 
 abbrev pub invariant-loop-left : goal.invariant-loop-left

@@ -1,6 +1,5 @@
 -- `plain_length::places_length` meets its contract. The loop's invariant: the places counted and those left are all; the measure is their unit. Assumes nothing.
-use borrow.Author.Rules.{rules}
-use Rattle.plain_length.proofs.Counting.{Remaining, remaining_start, remaining_again, remaining_end}
+use Rattle.plain_length.proofs.Counting.{Remaining}
 use Rattle.plain_length.proofs.places_length.Given as goal
 
 abbrev pub invariant-loop-rest : goal.invariant-loop-rest

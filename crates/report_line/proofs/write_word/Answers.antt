@@ -1,8 +1,6 @@
 -- `report_line::write_word` meets its contract. Assumes nothing.
 use borrow.Author.Rules.{rules}
-use Prim.Native.Nat.{◌-◌}
-use lib.ListN.{length}
-use Rattle.report_line.proofs.Pieces.{Copying, copying_start, copying_again, copying_end}
+use Rattle.report_line.proofs.Pieces.{copying_start, copying_again, copying_end}
 use Rattle.report_line.proofs.write_word.Goals as goal
 
 pub loop-i-init : goal.loop-i-init

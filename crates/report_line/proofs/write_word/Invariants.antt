@@ -1,8 +1,7 @@
 -- `report_line::write_word` meets its contract. Assumes nothing.
-use borrow.Author.Rules.{rules}
 use Prim.Native.Nat.{◌-◌}
 use lib.ListN.{length}
-use Rattle.report_line.proofs.Pieces.{Copying, copying_start, copying_again, copying_end}
+use Rattle.report_line.proofs.Pieces.{Copying}
 use Rattle.report_line.proofs.write_word.Given as goal
 
 abbrev pub invariant-loop-i : goal.invariant-loop-i

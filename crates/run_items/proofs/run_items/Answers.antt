@@ -1,18 +1,11 @@
 -- `run_items::run_items` meets its contract. Assumes nothing.
-use mathlib.Core.Path.{◌≡◌, refl, ap, ◌∙◌}
+use mathlib.Core.Path.{refl, ap, ◌∙◌}
 use mathlib.Core.Bool.{cond}
-use mathlib.Core.Logic.{⊎_elim}
-use borrow.Author.Tests.{not-true, not-false}
-use Prim.Native.Nat.{◌-◌}
-use lib.ListN.{length, drop}
-use Rattle.rules.specs.States.{state_of}
-use Rattle.rules.specs.Run.{run_from}
-use Rattle.theorems.specs.Facts.{Fits}
+use lib.ListN.{length}
 use Rattle.state_pen.specs.declared.Pen.{Pen}
-use Rattle.state_pen.specs.Pens.{core_of}
 use Rattle.do_deed.proofs.Penned.{kept_there, pushed_core, popped_core, emptied_there, push_placed, pop_placed}
 use Rattle.run_items.proofs.Blank.{blank_known, blank_left}
-use Rattle.run_items.proofs.Turns.{Going, Quiet, quiet_first, quiet_goes, goes_quiet, text_told, deed_done, run_whole, left_with, stop_is, turn_full, turn_still, turn_over, turn_stops, turn_blank, turn_goes, turn_text, going_apart}
+use Rattle.run_items.proofs.Turns.{quiet_first, quiet_goes, goes_quiet, text_told, deed_done, run_whole, left_with, stop_is, turn_full, turn_still, turn_over, turn_stops, turn_blank, turn_goes, turn_text, going_apart}
 use native.Mathlib.Omega.{arith}
 use borrow.Author.Rules.{rules}
 use Rattle.run_items.proofs.run_items.Goals as goal
@@ -77,27 +70,27 @@ loop-done-smaller c = omega (arith, c.loop-done-test.true)
 
 pub loop-done-preserved : goal.loop-done-preserved
 loop-done-preserved c = elim c.match-stacking.branch [
-    in-Kept w ↦ (c.loop-done.invariant.0, c.do_item-d.auto.page ∙ c.loop-done.invariant.1, turn_goes _ c.loop-done.invariant.0 _ _ _ _ _ _ _ c.loop-done.invariant.2 c.loop-done-test.true _ c.is_over.ensures c.if-is_over.false _ _ (deed_done _ _ _ _ _ _ _ _ _ _ _ _ _ _ c.loop-done.invariant.2.inside c.read_item-r.ensures c.do_item-d.ensures (kept_there _ _ _ c.do_item-d.result _ w.in-Kept.is w.stack-is)) _ c.goes_on.ensures c.if-not-goes_on.false, quiet_goes _ _ _ _ _ c.goes_on.ensures c.if-not-goes_on.false c.loop-done.invariant.3.found c.loop-done.invariant.3.began)
-    | in-Emptied w ↦ (c.loop-done.invariant.0, c.do_item-d.auto.page ∙ c.loop-done.invariant.1, turn_goes _ c.loop-done.invariant.0 _ _ _ _ _ _ _ c.loop-done.invariant.2 c.loop-done-test.true _ c.is_over.ensures c.if-is_over.false _ _ (deed_done _ _ _ _ _ _ _ _ _ _ _ _ _ _ c.loop-done.invariant.2.inside c.read_item-r.ensures c.do_item-d.ensures (emptied_there _ _ _ c.do_item-d.result _ w.in-Emptied.is w.stack-is)) _ c.goes_on.ensures c.if-not-goes_on.false, quiet_goes _ _ _ _ _ c.goes_on.ensures c.if-not-goes_on.false c.loop-done.invariant.3.found c.loop-done.invariant.3.began)
-  ]
+  | in-Kept w ↦ (c.loop-done.invariant.0, c.do_item-d.auto.page ∙ c.loop-done.invariant.1, turn_goes _ c.loop-done.invariant.0 _ _ _ _ _ _ _ c.loop-done.invariant.2 c.loop-done-test.true _ c.is_over.ensures c.if-is_over.false _ _ (deed_done _ _ _ _ _ _ _ _ _ _ _ _ _ _ c.loop-done.invariant.2.inside c.read_item-r.ensures c.do_item-d.ensures (kept_there _ _ _ c.do_item-d.result _ w.in-Kept.is w.stack-is)) _ c.goes_on.ensures c.if-not-goes_on.false, quiet_goes _ _ _ _ _ c.goes_on.ensures c.if-not-goes_on.false c.loop-done.invariant.3.found c.loop-done.invariant.3.began)
+  | in-Emptied w ↦ (c.loop-done.invariant.0, c.do_item-d.auto.page ∙ c.loop-done.invariant.1, turn_goes _ c.loop-done.invariant.0 _ _ _ _ _ _ _ c.loop-done.invariant.2 c.loop-done-test.true _ c.is_over.ensures c.if-is_over.false _ _ (deed_done _ _ _ _ _ _ _ _ _ _ _ _ _ _ c.loop-done.invariant.2.inside c.read_item-r.ensures c.do_item-d.ensures (emptied_there _ _ _ c.do_item-d.result _ w.in-Emptied.is w.stack-is)) _ c.goes_on.ensures c.if-not-goes_on.false, quiet_goes _ _ _ _ _ c.goes_on.ensures c.if-not-goes_on.false c.loop-done.invariant.3.found c.loop-done.invariant.3.began)
+]
 
 pub shape_of-page : goal.shape_of-page
 shape_of-page c = elim c.loop-done-test.branch [
-    else-loop-done-test w ↦ ap length w.page-is ∙ c.loop-done.invariant.1
-    | then-loop-done-test+else-text_next+then-is_over w ↦ ap length w.page-is ∙ c.loop-done.invariant.1
-    | then-loop-done-test+else-text_next+else-is_over+then-not-goes_on w ↦ ap length w.page-is ∙ w.do_item-d.auto.page ∙ c.loop-done.invariant.1
-  ]
+  | else-loop-done-test w ↦ ap length w.page-is ∙ c.loop-done.invariant.1
+  | then-loop-done-test+else-text_next+then-is_over w ↦ ap length w.page-is ∙ c.loop-done.invariant.1
+  | then-loop-done-test+else-text_next+else-is_over+then-not-goes_on w ↦ ap length w.page-is ∙ w.do_item-d.auto.page ∙ c.loop-done.invariant.1
+]
 
 pub returns : goal.returns
 returns c = (
   run_whole _ _ _ _ _ _ _ _ _ c.pen_of-pen.ensures (elim c.loop-done-test.branch [
-    else-loop-done-test w ↦ left_with _ _ _ _ _ _ _ _ _ _ _ _ _ _ _ _ _ _ _ _ _ _ _ _ _ _ w.page-is w.pen-is w.stack-is w.seed-is w.beside-is w.sequence-is w.at-is w.done-is w.finding-is w.found-is w.began-is w.ended-is c.core_of-core.ensures (turn_full _ c.loop-done.invariant.0 _ _ _ _ _ _ _ c.loop-done.invariant.2 _ _ _ _ c.loop-done.invariant.3 w.loop-done-test.false)
+    | else-loop-done-test w ↦ left_with _ _ _ _ _ _ _ _ _ _ _ _ _ _ _ _ _ _ _ _ _ _ _ _ _ _ w.page-is w.pen-is w.stack-is w.seed-is w.beside-is w.sequence-is w.at-is w.done-is w.finding-is w.found-is w.began-is w.ended-is c.core_of-core.ensures (turn_full _ c.loop-done.invariant.0 _ _ _ _ _ _ _ c.loop-done.invariant.2 _ _ _ _ c.loop-done.invariant.3 w.loop-done-test.false)
     | then-loop-done-test+else-text_next+then-is_over w ↦ left_with _ _ _ _ _ _ _ _ _ _ _ _ _ _ _ _ _ _ _ _ _ _ _ _ _ _ w.page-is w.pen-is w.stack-is w.seed-is w.beside-is w.sequence-is w.at-is w.done-is w.finding-is w.found-is w.began-is w.ended-is c.core_of-core.ensures (turn_over _ c.loop-done.invariant.0 _ _ _ _ _ _ _ c.loop-done.invariant.2 w.loop-done-test.true _ _ _ _ c.loop-done.invariant.3 _ w.is_over.ensures w.if-is_over.true)
     | then-loop-done-test+else-text_next+else-is_over+then-not-goes_on w ↦ left_with _ _ _ _ _ _ _ _ _ _ _ _ _ _ _ _ _ _ _ _ _ _ _ _ _ _ w.page-is w.pen-is w.stack-is w.seed-is w.beside-is w.sequence-is w.at-is w.done-is w.finding-is w.found-is w.began-is w.ended-is c.core_of-core.ensures (elim w.match-stacking.branch [ in-Kept v ↦ turn_stops _ c.loop-done.invariant.0 _ _ _ _ _ _ _ c.loop-done.invariant.2 w.loop-done-test.true _ w.is_over.ensures w.if-is_over.false _ _ (deed_done _ _ _ _ _ _ _ _ _ _ _ _ _ _ c.loop-done.invariant.2.inside w.read_item-r.ensures w.do_item-d.ensures (kept_there _ _ _ w.do_item-d.result _ v.in-Kept.is v.stack-is)) _ w.goes_on.ensures w.if-not-goes_on.true _ (stop_is _ _ _ _ _ _ w.place_of-found.ensures w.spot_of-began.ensures) | in-Emptied v ↦ turn_stops _ c.loop-done.invariant.0 _ _ _ _ _ _ _ c.loop-done.invariant.2 w.loop-done-test.true _ w.is_over.ensures w.if-is_over.false _ _ (deed_done _ _ _ _ _ _ _ _ _ _ _ _ _ _ c.loop-done.invariant.2.inside w.read_item-r.ensures w.do_item-d.ensures (emptied_there _ _ _ w.do_item-d.result _ v.in-Emptied.is v.stack-is)) _ w.goes_on.ensures w.if-not-goes_on.true _ (stop_is _ _ _ _ _ _ w.place_of-found.ensures w.spot_of-began.ensures) ])
   ]),
   elim c.loop-done-test.branch [
-    else-loop-done-test w ↦ blank_known _ _ _ _ _ (cond c.loop-done-test.ended c.loop-done-test.was_used c.loop-done-test.pen.used) c.zeros_behind.ensures (λ u k. w.page-is ∙ turn_still _ c.loop-done.invariant.0 _ _ _ _ _ _ _ c.loop-done.invariant.2 _ _ _ (w.ended-is ∙ c.loop-done.invariant.3.ended) (ap (λ (n : Pen). n.used) w.pen-is) u k)
+    | else-loop-done-test w ↦ blank_known _ _ _ _ _ (cond c.loop-done-test.ended c.loop-done-test.was_used c.loop-done-test.pen.used) c.zeros_behind.ensures (λ u k. w.page-is ∙ turn_still _ c.loop-done.invariant.0 _ _ _ _ _ _ _ c.loop-done.invariant.2 _ _ _ (w.ended-is ∙ c.loop-done.invariant.3.ended) (ap (λ (n : Pen). n.used) w.pen-is) u k)
     | then-loop-done-test+else-text_next+then-is_over w ↦ blank_known _ _ _ _ _ (cond c.loop-done-test.ended c.loop-done-test.was_used c.loop-done-test.pen.used) c.zeros_behind.ensures (λ u k. w.page-is ∙ turn_still _ c.loop-done.invariant.0 _ _ _ _ _ _ _ c.loop-done.invariant.2 _ _ _ (w.ended-is ∙ c.loop-done.invariant.3.ended) (ap (λ (n : Pen). n.used) w.pen-is) u k)
     | then-loop-done-test+else-text_next+else-is_over+then-not-goes_on w ↦ blank_known _ _ _ _ _ (cond c.loop-done-test.ended c.loop-done-test.was_used c.loop-done-test.pen.used) c.zeros_behind.ensures (λ u k. w.page-is ∙ (elim w.match-stacking.branch [ in-Kept v ↦ turn_blank _ c.loop-done.invariant.0 _ _ _ _ _ _ _ c.loop-done.invariant.2 w.loop-done-test.true _ w.is_over.ensures w.if-is_over.false _ _ (deed_done _ _ _ _ _ _ _ _ _ _ _ _ _ _ c.loop-done.invariant.2.inside w.read_item-r.ensures w.do_item-d.ensures (kept_there _ _ _ w.do_item-d.result _ v.in-Kept.is v.stack-is)) (blank_left _ _ _ _ _ _ w.ended-is w.was_used-is w.pen-is u) k | in-Emptied v ↦ turn_blank _ c.loop-done.invariant.0 _ _ _ _ _ _ _ c.loop-done.invariant.2 w.loop-done-test.true _ w.is_over.ensures w.if-is_over.false _ _ (deed_done _ _ _ _ _ _ _ _ _ _ _ _ _ _ c.loop-done.invariant.2.inside w.read_item-r.ensures w.do_item-d.ensures (emptied_there _ _ _ w.do_item-d.result _ v.in-Emptied.is v.stack-is)) (blank_left _ _ _ _ _ _ w.ended-is w.was_used-is w.pen-is u) k ]))
-  ]
+  ],
 )

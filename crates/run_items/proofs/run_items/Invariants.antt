@@ -1,20 +1,12 @@
 -- `run_items::run_items` meets its contract. Assumes nothing.
-use mathlib.Core.Path.{◌≡◌, refl, ap, ◌∙◌}
-use mathlib.Core.Bool.{cond}
-use mathlib.Core.Logic.{⊎_elim}
-use borrow.Author.Tests.{not-true, not-false}
+use mathlib.Core.Path.{◌≡◌}
 use Prim.Native.Nat.{◌-◌}
 use lib.ListN.{length, drop}
 use Rattle.rules.specs.States.{state_of}
 use Rattle.rules.specs.Run.{run_from}
 use Rattle.theorems.specs.Facts.{Fits}
-use Rattle.state_pen.specs.declared.Pen.{Pen}
 use Rattle.state_pen.specs.Pens.{core_of}
-use Rattle.do_deed.proofs.Penned.{kept_there, pushed_core, popped_core, emptied_there, push_placed, pop_placed}
-use Rattle.run_items.proofs.Blank.{blank_known, blank_left}
-use Rattle.run_items.proofs.Turns.{Going, Quiet, quiet_first, quiet_goes, goes_quiet, text_told, deed_done, run_whole, left_with, stop_is, turn_full, turn_still, turn_over, turn_stops, turn_blank, turn_goes, turn_text, going_apart}
-use native.Mathlib.Omega.{arith}
-use borrow.Author.Rules.{rules}
+use Rattle.run_items.proofs.Turns.{Going, Quiet}
 use Rattle.run_items.proofs.run_items.Given as goal
 
 abbrev pub invariant-loop-done : goal.invariant-loop-done
