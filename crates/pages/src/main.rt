@@ -12,7 +12,6 @@ ghost use Rattle.rules.specs.States.{afresh};
 ghost use Rattle.pages_open.specs.Opening.{longest_lines};
 
 use given::Given;
-use libc::{STDERR_FILENO, STDOUT_FILENO};
 use rules::{State, Verdict};
 
 // A place for the largest page, 4,800 by 6,800 dots.
@@ -31,33 +30,40 @@ fn first_state(w: usize, h: usize) -> State
 }
 
 // A page behind its head, if there is one to be written; whether all of it was.
-fn write_page(paged: bool, head: &[u8], page: &[u8]) -> bool {
+fn write_page(out: &impl Print, paged: bool, head: &[u8], page: &[u8]) -> bool {
     if !paged {
         return true;
     }
-    if !io::write_all(STDOUT_FILENO, head) {
+    if out.write_all(head).is_err() {
         return false;
     }
-    io::write_all(STDOUT_FILENO, page)
+    out.write_all(page).is_ok()
 }
 
 // What a step gave, the page before the lines that tell of it; whether all of it was written.
-fn write_step(paged: bool, head: &[u8], page: &[u8], lines: &[u8]) -> bool {
-    if !write_page(paged, head, page) {
+fn write_step(
+    out: &impl Print,
+    err: &impl Print,
+    paged: bool,
+    head: &[u8],
+    page: &[u8],
+    lines: &[u8],
+) -> bool {
+    if !write_page(out, paged, head, page) {
         return false;
     }
-    io::write_all(STDERR_FILENO, lines)
+    err.write_all(lines).is_ok()
 }
 
 // The line AT behind a page, if it is asked for; whether it was written. Its room is for the word, a tab, twenty digits and LF.
-fn write_at(asked: bool, paged: bool, place: usize) -> bool {
+fn write_at(err: &impl Print, asked: bool, paged: bool, place: usize) -> bool {
     if !asked || !paged {
         return true;
     }
     let mut room = [0u8; 24];
     let word = report_line::write_word(b"AT", &mut room, 0);
     let end = report_line::write_last_field(place, &mut room, word);
-    io::write_all(STDERR_FILENO, &room[..end])
+    err.write_all(&room[..end]).is_ok()
 }
 
 // Where a step is refused. Nothing meets what is asked here, so the proof of the loop shows that it never comes to this: on a job that is allowed
@@ -70,6 +76,8 @@ fn refused_step() -> bool
 
 // Step after step, until the job is over or a write fails; whether all was written.
 fn write_steps(
+    out: &impl Print,
+    err: &impl Print,
     page: &mut [u8],
     w: usize,
     h: usize,
@@ -97,13 +105,13 @@ fn write_steps(
             return refused_step();
         };
         let end = r.end;
-        if !write_step(r.paged, head, page, &room[..end]) {
+        if !write_step(out, err, r.paged, head, page, &room[..end]) {
             return false;
         }
         if r.over {
             return true;
         }
-        if !write_at(asked, r.paged, r.place) {
+        if !write_at(err, asked, r.paged, r.place) {
             return false;
         }
         let t = r.state;
@@ -115,22 +123,38 @@ fn write_steps(
 }
 
 // The pages of a job on a page of w by h dots; whether all was written.
-fn write_pages(w: usize, h: usize, s: &[u8], head: &[u8], room: &mut [u8], asked: bool) -> bool
+fn write_pages(
+    out: &impl Print,
+    err: &impl Print,
+    w: usize,
+    h: usize,
+    s: &[u8],
+    head: &[u8],
+    room: &mut [u8],
+    asked: bool,
+) -> bool
     requires h_value { allowed w h ≡ true }
     requires s_len_bound { length s.now ≤ longest_stream }
     requires longest_lines_in_bounds { longest_lines ≤ length room.old }
 {
     let mut page = largest_page();
     let bytes = h * (w / 8);
-    write_steps(&mut page[..bytes], w, h, s, head, room, asked)
+    write_steps(out, err, &mut page[..bytes], w, h, s, head, room, asked)
 }
 
 // The first lines of a job, and its pages if it is not refused; whether all was written.
-fn write_job(w: usize, h: usize, s: &[u8], asked: bool) -> bool {
+fn write_job(
+    out: &impl Print,
+    err: &impl Print,
+    w: usize,
+    h: usize,
+    s: &[u8],
+    asked: bool,
+) -> bool {
     let mut room = [0u8; 184];
     let first = pages_open::begin(w, h, s, &mut room);
     let end = first.end;
-    if !io::write_all(STDERR_FILENO, &room[..end]) {
+    if err.write_all(&room[..end]).is_err() {
         return false;
     }
     if first.refused {
@@ -138,19 +162,20 @@ fn write_job(w: usize, h: usize, s: &[u8], asked: bool) -> bool {
     }
     let mut head = [0u8; 45];
     let head_end = pages_open::write_head(w, h, &mut head);
-    write_pages(w, h, s, &head[..head_end], &mut room, asked)
+    write_pages(out, err, w, h, s, &head[..head_end], &mut room, asked)
 }
 
-fn main() {
-    let w = given::measure_word(1, 2552);
-    let h = given::measure_word(2, 3304);
-    let asked = given::measure_word(3, 0) != 0;
+fn main(rt: HostRuntime) {
+    let err = rt.stderr();
+    let w = given::measure_word(&rt, 1, 2552);
+    let h = given::measure_word(&rt, 2, 3304);
+    let asked = given::measure_word(&rt, 3, 0) != 0;
     let mut input = given::longest_input();
-    let Given::Job(n) = given::read_job(&mut input) else {
-        io::write_all(STDERR_FILENO, b"UNREAD\n");
+    let Given::Job(n) = given::read_job(&mut rt.stdin(), &mut input) else {
+        let _ = err.write_all(b"UNREAD\n");
         return;
     };
-    if !write_job(w, h, &input[..n], asked) {
-        io::write_all(STDERR_FILENO, b"UNWRITTEN\n");
+    if !write_job(&rt.stdout(), &err, w, h, &input[..n], asked) {
+        let _ = err.write_all(b"UNWRITTEN\n");
     }
 }

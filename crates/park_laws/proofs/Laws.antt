@@ -1,17 +1,17 @@
 -- The laws of a form's data: its members say all of what is parked that its text does not say otherwise, and each says what it was set to. Assumes nothing.
-use mathlib.Core.Path.{◌≡◌, refl, ap, sym, ◌∙◌}
-use Prim.Native.Nat.{ℕ, zero, suc, ◌≤◌, ◌<◌, ◌^◌}
+use mathlib.Core.Path.{◌≡◌, refl, ap, sym}
+use Prim.Native.Nat.{ℕ, zero, suc}
 use native.Mathlib.Omega.{arith}
-use mathlib.Core.List.{List, [], ◌∷◌}
-use mathlib.Core.Bool.{Bool, true, false, cond}
+use mathlib.Core.List.{List, []}
+use mathlib.Core.Bool.{Bool, true, false}
 use lib.Dec.{eqb, leb}
 use borrow.Author.Tests.{leb-true}
 use Rattle.common.specs.Choice.{flagged}
 use Rattle.rules.specs.declared.Spot.{Spot}
 use Rattle.rules.specs.declared.Sequence.TheVariants.{Closed}
 use Rattle.rules.specs.States.{state_of}
-use Rattle.rules.specs.Forms.{Parked, parked_of, Member, Form, flags_of, JOB}
-use Rattle.rules.specs.Park.{give_out, take_in, of_numbers, row_bytes, depth_of}
+use Rattle.rules.specs.Forms.{Parked, parked_of, Form, flags_of, JOB}
+use Rattle.rules.specs.Park.{give_out, of_numbers, row_bytes, depth_of}
 use Rattle.park_laws.specs.Facts.{Each, none, each, Fit, end, fit, TenDigits}
 
 -- what is read of numbers that fit

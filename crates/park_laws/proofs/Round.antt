@@ -1,24 +1,23 @@
 -- The texts of a form are the prints of its lines; what can be parked, and texts of the form that are sound, are the same thing. Assumes nothing.
-use mathlib.Core.Path.{◌≡◌, refl, ap, sym, ◌∙◌}
-use Prim.Native.Nat.{ℕ, ◌*◌, ◌-◌, ◌/◌, ◌^◌, ◌≤◌, ◌<◌}
+use mathlib.Core.Path.{◌≡◌, ap, sym, ◌∙◌}
+use Prim.Native.Nat.{ℕ, ◌-◌, ◌≤◌}
 use native.Mathlib.Omega.{arith}
-use mathlib.Core.List.{List, [], ◌∷◌, ◌++◌}
-use mathlib.Core.Bool.{Bool, true, false}
+use mathlib.Core.List.{List, ◌++◌}
+use mathlib.Core.Bool.{true}
 use lib.ListN.{length, take, drop, replicate, length-append, length-replicate, length-drop, take-append-drop}
 use lib.Seq.{take-append_seam, length-take-le}
 use Rattle.common.specs.Lists.{pad}
 use Rattle.common.proofs.Lists.{rejoin}
-use Rattle.rules.specs.declared.Spot.{Spot}
 use Rattle.rules.specs.Measure.{stack_holds, row_holds, origin}
 use Rattle.rules.specs.Report.{line}
-use Rattle.rules.specs.Texts.{Found, wrong, found, then, many, put_many, line_of, position, put_position, row, put_row}
+use Rattle.rules.specs.Texts.{found, then, many, put_many, position, put_position, row, put_row}
 use Rattle.rules.specs.Forms.{Parked, measured, Form, flags_of}
 use Rattle.rules.specs.Park.{give_out, of_numbers, row_bytes, depth_of, Lines, lines_of, print, lines_from, stack_with, of_lines, shape, lines, parked_sound}
-use Rattle.park_laws.specs.Facts.{Each, Fit, WellFormed, Parkable}
+use Rattle.park_laws.specs.Facts.{WellFormed, Parkable}
 use Rattle.park_laws.proofs.Digits.{by_then, same}
 use Rattle.park_laws.proofs.Written.{line_put, line_inv, many_put, many_inv, position_put, position_inv, row_put, row_inv}
-use Rattle.park_laws.proofs.Laws.{Taken, Lawful}
-use Rattle.park_laws.proofs.Sounds.{Sounds, sounds, in_page_lem, free_is, zero_is, each_take, each_append, each_zero}
+use Rattle.park_laws.proofs.Laws.{Lawful}
+use Rattle.park_laws.proofs.Sounds.{sounds, in_page_lem, free_is, zero_is, each_take, each_append, each_zero}
 
 -- what is printed is read back
 pub lines_print : (f : Form) (r : Lines) (s : List ℕ) → WellFormed f r → lines f (print f r s) ≡ found r s

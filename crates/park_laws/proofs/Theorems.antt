@@ -3,28 +3,25 @@ use mathlib.Core.Path.{◌≡◌, refl, ap, sym, ◌∙◌, subst}
 use Prim.Native.Nat.{ℕ}
 use native.Mathlib.Omega.{arith}
 use mathlib.Core.List.{List, [], ◌∷◌}
-use mathlib.Core.Bool.{Bool, true, false, cond, not, ◌&&◌, false≢true}
+use mathlib.Core.Bool.{Bool, true, false, cond, not, false≢true}
 use lib.Dec.{ltb}
-use lib.ListN.{length, take, drop}
+use lib.ListN.{length, drop}
 use lib.Seq.{take-append_seam}
 use Rattle.common.proofs.Choices.{and_true, and_both}
-use Rattle.rules.specs.declared.Measure.{Measure}
 use Rattle.rules.specs.declared.Sequence.{Sequence}
 use Rattle.rules.specs.declared.Sequence.TheVariants.{Closed, Open}
 use Rattle.rules.specs.declared.State.{State}
 use Rattle.rules.specs.declared.Refusal.{Refusal}
 use Rattle.rules.specs.declared.Refusal.TheVariants.{PageMeasure, UnsoundState, Room, SequenceOpen}
-use Rattle.rules.specs.declared.Verdict.{Verdict}
 use Rattle.rules.specs.declared.Verdict.TheVariants.{Carried, Refused}
 use Rattle.rules.specs.Measure.{allowed, measure_of}
 use Rattle.rules.specs.Sound.{sound}
 use Rattle.theorems.proofs.Sound.{state_facts}
 use Rattle.rules.specs.Texts.{Found, wrong, found}
 use Rattle.rules.specs.Forms.{Parked, parked_of, measured, Form, JOB}
-use Rattle.rules.specs.Park.{Lines, print, lines_from, write, of_lines, lines, parked_sound, Answer, given, not_of_form, not_sound, judged, read, stowed, stow_refused, Stowed, is_open, park, no_state, answered, unpark}
-use Rattle.park_laws.specs.Facts.{Each, IsByte, WellFormed, OfForm, Parkable}
-use Rattle.theorems.specs.Facts.{Shaped}
-use Rattle.park_laws.specs.Statements.{WrittenTextIsRead, IsItsText, ReadTextIsWritten, OneText, OneParked, Parted, TextsArePartedBy17And18, TextsFit, ParkedIsUnparked, CanGoOn, UnparkedGoesOn, NoStateGoesOn}
+use Rattle.rules.specs.Park.{Lines, print, lines_from, write, of_lines, lines, parked_sound, Answer, given, not_of_form, not_sound, judged, read, stow_refused, Stowed, is_open, park, no_state, answered, unpark}
+use Rattle.park_laws.specs.Facts.{OfForm, Parkable}
+use Rattle.park_laws.specs.Statements.{WrittenTextIsRead, ReadTextIsWritten, OneText, OneParked, TextsArePartedBy17And18, TextsFit, ParkedIsUnparked, CanGoOn, UnparkedGoesOn, NoStateGoesOn}
 use Rattle.park_laws.proofs.Laws.{Lawful, job_lawful}
 use Rattle.park_laws.proofs.Round.{lines_print, lines_inv, lines_back, lines_parkable, parked_formed, parked_back}
 use Rattle.park_laws.proofs.Bounds.{write_length}

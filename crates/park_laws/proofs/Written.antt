@@ -1,20 +1,19 @@
 -- The lines of a text: what is written is read back, and what is read is what is written. Assumes nothing.
-use mathlib.Core.Path.{◌≡◌, refl, ap, sym, ◌∙◌}
-use Prim.Native.Nat.{ℕ, zero, suc, ◌+◌, ◌*◌, ◌-◌, ◌/◌, ◌%◌, ◌^◌, ◌≤◌, ◌<◌}
+use mathlib.Core.Path.{◌≡◌, refl, ap, ◌∙◌}
+use Prim.Native.Nat.{ℕ, zero, suc, ◌+◌, ◌*◌, ◌-◌, ◌/◌, ◌%◌, ◌<◌}
 use native.Mathlib.Omega.{arith}
 use mathlib.Core.List.{List, [], ◌∷◌, ◌++◌}
-use mathlib.Core.Bool.{Bool, true, false, cond, not, ◌&&◌, ◌||◌}
+use mathlib.Core.Bool.{Bool, true}
 use mathlib.Core.Logic.{⊎_elim}
-use lib.Dec.{eqb, ltb, leb}
-use lib.ListN.{length, get_or}
+use lib.Dec.{ltb}
+use lib.ListN.{length}
 use borrow.Author.Tests.{ltb-true, ltb-false, le-ltb, lt-ltb}
 use Rattle.common.specs.Choice.{within}
-use Rattle.common.proofs.Choices.{choice_by, within_in, within_bounds, or_true_left, or_true_right, or_cases, and_true, and_both}
+use Rattle.common.proofs.Choices.{choice_by, within_in, within_bounds, or_true_left, or_true_right, or_cases, and_true}
 use Rattle.rules.specs.declared.Spot.{Spot}
-use Rattle.rules.specs.Measure.{spot}
 use Rattle.rules.specs.Plain.{decimal}
 use Rattle.rules.specs.Report.{fields as put_fields, line}
-use Rattle.rules.specs.Texts.{Found, wrong, found, then, many, put_many, expect, expect_all, number, field, fitting, numbers, line_of, POS, two_numbers, spot_from, position, put_position, hex, is_hex, unhex, pair, put_pair, ROW, row, put_row}
+use Rattle.rules.specs.Texts.{Found, found, then, many, put_many, field, numbers, line_of, POS, two_numbers, spot_from, position, put_position, hex, is_hex, unhex, pair, put_pair, ROW, row, put_row}
 use Rattle.park_laws.specs.Facts.{Each, none, each, Fit, end, fit, TenDigits, SmallSpot, IsByte}
 use Rattle.park_laws.proofs.Digits.{never, by_then, cond_inv, found_value, found_rest, same, expect_put, expect_inv, word_put, word_inv, stops, number_put, number_inv, number_small}
 

@@ -1,9 +1,5 @@
 -- `park_text::fields_length` meets its contract. The loop's invariant: the bytes counted and those left are all. Assumes nothing.
-use mathlib.Core.List.{[]}
-use Prim.Native.Nat.{◌-◌, ◌≤◌}
-use lib.ListN.{length, drop}
-use Rattle.rules.specs.Report.{fields}
-use Rattle.park_text.proofs.Counting.{Counts, counts_start, fields_count, fields_counted}
+use Rattle.park_text.proofs.Counting.{counts_start, fields_count, fields_counted}
 use borrow.Author.Rules.{rules}
 use Rattle.park_text.proofs.fields_length.Goals as goal
 

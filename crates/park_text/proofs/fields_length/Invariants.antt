@@ -3,8 +3,7 @@ use mathlib.Core.List.{[]}
 use Prim.Native.Nat.{◌-◌, ◌≤◌}
 use lib.ListN.{length, drop}
 use Rattle.rules.specs.Report.{fields}
-use Rattle.park_text.proofs.Counting.{Counts, counts_start, fields_count, fields_counted}
-use borrow.Author.Rules.{rules}
+use Rattle.park_text.proofs.Counting.{Counts}
 use Rattle.park_text.proofs.fields_length.Given as goal
 
 abbrev pub invariant-loop-i : goal.invariant-loop-i

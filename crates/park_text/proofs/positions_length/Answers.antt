@@ -1,11 +1,6 @@
 -- `park_text::positions_length` meets its contract. The loop's invariant: the bytes counted and those left are all. Assumes nothing.
-use mathlib.Core.Path.{◌≡◌}
-use mathlib.Core.List.{[]}
-use Prim.Native.Nat.{◌-◌, ◌≤◌}
-use lib.ListN.{length, take, drop}
 use Rattle.common.proofs.Lists.{mapped}
-use Rattle.rules.specs.Texts.{put_many, put_position}
-use Rattle.park_text.proofs.Counting.{Counts, counts_start, positions_count, positions_counted}
+use Rattle.park_text.proofs.Counting.{counts_start, positions_count, positions_counted}
 use borrow.Author.Rules.{rules}
 use Rattle.park_text.proofs.positions_length.Goals as goal
 

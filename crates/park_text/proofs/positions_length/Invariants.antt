@@ -3,10 +3,8 @@ use mathlib.Core.Path.{◌≡◌}
 use mathlib.Core.List.{[]}
 use Prim.Native.Nat.{◌-◌, ◌≤◌}
 use lib.ListN.{length, take, drop}
-use Rattle.common.proofs.Lists.{mapped}
 use Rattle.rules.specs.Texts.{put_many, put_position}
-use Rattle.park_text.proofs.Counting.{Counts, counts_start, positions_count, positions_counted}
-use borrow.Author.Rules.{rules}
+use Rattle.park_text.proofs.Counting.{Counts}
 use Rattle.park_text.proofs.positions_length.Given as goal
 
 abbrev pub invariant-loop-i : goal.invariant-loop-i

@@ -1,9 +1,5 @@
 -- `park_text::write_fields` meets its contract. The loop's invariant: with the numbers that are left all are written. Assumes nothing.
-use mathlib.Core.List.{[]}
-use Prim.Native.Nat.{◌-◌}
-use lib.ListN.{length, drop}
-use Rattle.rules.specs.Report.{fields}
-use Rattle.park_text.proofs.Writing.{Goes, goes_start, fields_again, fields_end}
+use Rattle.park_text.proofs.Writing.{goes_start, fields_again, fields_end}
 use borrow.Author.Rules.{rules}
 use Rattle.park_text.proofs.write_fields.Goals as goal
 

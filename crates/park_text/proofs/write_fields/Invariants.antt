@@ -3,8 +3,7 @@ use mathlib.Core.List.{[]}
 use Prim.Native.Nat.{◌-◌}
 use lib.ListN.{length, drop}
 use Rattle.rules.specs.Report.{fields}
-use Rattle.park_text.proofs.Writing.{Goes, goes_start, fields_again, fields_end}
-use borrow.Author.Rules.{rules}
+use Rattle.park_text.proofs.Writing.{Goes}
 use Rattle.park_text.proofs.write_fields.Given as goal
 
 abbrev pub invariant-loop-i : goal.invariant-loop-i

@@ -1,11 +1,8 @@
 -- `park_text::write_pairs` meets its contract. The loop's invariant: with the bytes that are left all are written. Assumes nothing.
-use mathlib.Core.Path.{◌≡◌}
 use mathlib.Core.List.{[], ◌∷◌}
-use Prim.Native.Nat.{◌-◌}
-use lib.ListN.{length, take, drop}
-use Rattle.rules.specs.Texts.{put_many, put_pair}
+use Rattle.rules.specs.Texts.{put_pair}
 use Rattle.park_text.proofs.Texts.{pair_append}
-use Rattle.park_text.proofs.Writing.{Goes, goes_start, many_again, many_tail}
+use Rattle.park_text.proofs.Writing.{goes_start, many_again, many_tail}
 use borrow.Author.Rules.{rules}
 use Rattle.park_text.proofs.write_pairs.Goals as goal
 

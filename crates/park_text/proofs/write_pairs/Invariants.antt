@@ -4,9 +4,7 @@ use mathlib.Core.List.{[], ◌∷◌}
 use Prim.Native.Nat.{◌-◌}
 use lib.ListN.{length, take, drop}
 use Rattle.rules.specs.Texts.{put_many, put_pair}
-use Rattle.park_text.proofs.Texts.{pair_append}
-use Rattle.park_text.proofs.Writing.{Goes, goes_start, many_again, many_tail}
-use borrow.Author.Rules.{rules}
+use Rattle.park_text.proofs.Writing.{Goes}
 use Rattle.park_text.proofs.write_pairs.Given as goal
 
 abbrev pub invariant-loop-i : goal.invariant-loop-i

@@ -1,12 +1,9 @@
 -- `park_text::write_positions` meets its contract. The loop's invariant: with the positions that are left all are written. Assumes nothing.
-use mathlib.Core.Path.{◌≡◌}
 use mathlib.Core.List.{[]}
-use Prim.Native.Nat.{◌-◌, ◌≤◌}
-use lib.ListN.{length, take, drop}
 use Rattle.common.proofs.Lists.{mapped}
-use Rattle.rules.specs.Texts.{put_many, put_position}
+use Rattle.rules.specs.Texts.{put_position}
 use Rattle.park_text.proofs.Texts.{position_append}
-use Rattle.park_text.proofs.Writing.{Goes, goes_start_at, many_again, many_last}
+use Rattle.park_text.proofs.Writing.{goes_start_at, many_again, many_last}
 use borrow.Author.Rules.{rules}
 use Rattle.park_text.proofs.write_positions.Goals as goal
 

@@ -3,11 +3,8 @@ use mathlib.Core.Path.{◌≡◌}
 use mathlib.Core.List.{[]}
 use Prim.Native.Nat.{◌-◌, ◌≤◌}
 use lib.ListN.{length, take, drop}
-use Rattle.common.proofs.Lists.{mapped}
 use Rattle.rules.specs.Texts.{put_many, put_position}
-use Rattle.park_text.proofs.Texts.{position_append}
-use Rattle.park_text.proofs.Writing.{Goes, goes_start_at, many_again, many_last}
-use borrow.Author.Rules.{rules}
+use Rattle.park_text.proofs.Writing.{Goes}
 use Rattle.park_text.proofs.write_positions.Given as goal
 
 abbrev pub invariant-loop-i : goal.invariant-loop-i

@@ -2,7 +2,6 @@
 use Rattle.plain_translate.proofs.Answers.{no_measure, no_stream, no_room_lem, carried}
 use Rattle.run.proofs.Answers.{fits}
 use mathlib.Core.Path.{refl}
-use borrow.Author.Rules.{rules}
 use mathlib.Core.Path.{ap}
 use mathlib.Core.Bool.{not}
 use Rattle.plain_translate.proofs.translate.Goals as goal
