@@ -1,10 +1,9 @@
 -- What a leaf gave is what its definition gives. Assumes nothing.
-use mathlib.Core.Path.{◌≡◌, sym, ◌∙◌, ap}
+use mathlib.Core.Path.{◌≡◌, ◌∙◌, ap}
 use mathlib.Core.Bool.{Bool, true, false}
 use mathlib.Core.List.{List, []}
 use Prim.Native.Nat.{ℕ}
 use Rattle.common.specs.Stores.{Wrote}
-use Rattle.rules.specs.declared.Value.{Value}
 use Rattle.rules.specs.declared.Value.TheVariants.{Absolute, Relative}
 use Rattle.rules.specs.Plain.{put_value}
 use Rattle.rules.specs.declared.Sequence.{Sequence}

@@ -5,10 +5,8 @@ use Prim.Native.Nat.{ℕ}
 use lib.Seq.{sets}
 use Rattle.common.specs.Choice.{flagged}
 use Rattle.rules.specs.declared.Refusal.{Refusal}
-use Rattle.rules.specs.declared.Verdict.{Verdict}
 use Rattle.rules.specs.declared.Verdict.TheVariants.{Carried, Refused}
 use Rattle.rules.specs.declared.State.{State}
-use Rattle.rules.specs.declared.Ran.{Ran}
 use Rattle.rules.specs.Findings.{refusal_number, verdict_number}
 use Rattle.rules.specs.Run.{answer}
 use Rattle.state_load.specs.Kept.{state_at, state_bytes, bytes_behind}

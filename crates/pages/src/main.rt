@@ -66,10 +66,10 @@ fn write_at(err: &impl Print, asked: bool, paged: bool, place: usize) -> bool {
     err.write_all(&room[..end]).is_ok()
 }
 
-// Where a step is refused. Nothing meets what is asked here, so the proof of the loop shows that it never comes to this: on a job that is allowed
-// every step is carried out.
-fn refused_step() -> bool
-    requires { ⊥ }
+// Where a step is refused. It is asked for a step that was carried out, which is never so where it is called: so the proof of the loop shows that it never
+// comes to this. On a job that is allowed every step is carried out.
+fn refused_step(verdict: Verdict) -> bool
+    requires { verdict ≡ Verdict.Carried }
 {
     false
 }
@@ -102,7 +102,7 @@ fn write_steps(
         );
         let verdict = r.verdict;
         let Verdict::Carried = verdict else {
-            return refused_step();
+            return refused_step(verdict);
         };
         let end = r.end;
         if !write_step(out, err, r.paged, head, page, &room[..end]) {

@@ -4,7 +4,7 @@ use Prim.Native.Nat.{ℕ, zero, suc, ◌+◌}
 use native.Mathlib.Nat.{add-zero}
 use native.Mathlib.Omega.{arith}
 use mathlib.Core.List.{List, []}
-use mathlib.Core.Bool.{Bool, true, false, cond, not, ◌&&◌}
+use mathlib.Core.Bool.{not, ◌&&◌}
 use lib.Dec.{ltb}
 use lib.ListN.{length, take, drop}
 use Rattle.common.specs.Lists.{is_nil}
@@ -12,17 +12,16 @@ use Rattle.common.proofs.Choices.{choice}
 use Rattle.rules.specs.declared.Measure.{Measure}
 use Rattle.rules.specs.declared.Refusal.{Refusal}
 use Rattle.rules.specs.declared.Refusal.TheVariants.{PageMeasure, PageBuffer, StreamLength, UnsoundState, StartPlace}
-use Rattle.rules.specs.declared.Verdict.{Verdict}
 use Rattle.rules.specs.declared.Verdict.TheVariants.{Carried, Refused}
 use Rattle.rules.specs.declared.State.{State}
 use Rattle.rules.specs.Measure.{allowed, measure_of, page_bytes, is_too_long}
 use Rattle.rules.specs.Findings.{is_clean}
 use Rattle.rules.specs.Sound.{sound}
 use Rattle.rules.specs.Acts.{world, show_all, step, over}
-use Rattle.rules.specs.Run.{Outcome, refused, behind, run_from, readied, run, answer}
+use Rattle.rules.specs.Run.{Outcome, refused, run_from, readied, run, answer}
 use Rattle.report_laws.proofs.Whole.{held_once}
 use Rattle.pages_step.specs.declared.Sheet.{Sheet}
-use Rattle.pages_step.specs.Steps.{step_items, sheet_of, refused_sheet, Stepped, OneStep, RefusedStepsWriteNothing}
+use Rattle.pages_step.specs.Steps.{step_items, sheet_of, refused_sheet, OneStep, RefusedStepsWriteNothing}
 
 -- ---- a run of the rules is no refusal
 from_carried : (g : Measure) (n done at : ℕ) (t : State) (p s : List ℕ) → (run_from g n done at t p s).ran.verdict ≡ Carried

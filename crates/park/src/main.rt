@@ -5,7 +5,6 @@
 #![tactic(auto)]
 
 use given::Given;
-use libc::{STDERR_FILENO, STDOUT_FILENO};
 
 // A place for the largest page, 4,800 by 6,800 dots, which is drawn on and not read. A function of its own hides the zeros: no proof can count so many.
 fn largest_page() -> [u8; 4080000] {
@@ -13,24 +12,25 @@ fn largest_page() -> [u8; 4080000] {
 }
 
 // The text of a job, or the line of its refusal; whether it was written.
-fn write_parked(w: usize, h: usize, s: &[u8], items: usize) -> bool {
+fn write_parked(out: &impl Print, w: usize, h: usize, s: &[u8], items: usize) -> bool {
     let mut page = largest_page();
     let mut room = [0u8; 1905];
     let said = park_say::say_parked(&mut page, w, h, s, items, &mut room);
     let end = said.end;
-    io::write_all(STDOUT_FILENO, &room[..end])
+    out.write_all(&room[..end]).is_ok()
 }
 
-fn main() {
-    let w = given::measure_word(1, 2552);
-    let h = given::measure_word(2, 3304);
-    let items = given::items_word(3, 2097153);
+fn main(rt: HostRuntime) {
+    let err = rt.stderr();
+    let w = given::measure_word(&rt, 1, 2552);
+    let h = given::measure_word(&rt, 2, 3304);
+    let items = given::items_word(&rt, 3, 2097153);
     let mut input = given::longest_input();
-    let Given::Job(n) = given::read_job(&mut input) else {
-        io::write_all(STDERR_FILENO, b"UNREAD\n");
+    let Given::Job(n) = given::read_job(&mut rt.stdin(), &mut input) else {
+        let _ = err.write_all(b"UNREAD\n");
         return;
     };
-    if !write_parked(w, h, &input[..n], items) {
-        io::write_all(STDERR_FILENO, b"UNWRITTEN\n");
+    if !write_parked(&rt.stdout(), w, h, &input[..n], items) {
+        let _ = err.write_all(b"UNWRITTEN\n");
     }
 }

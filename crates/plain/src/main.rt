@@ -5,7 +5,6 @@
 #![tactic(auto)]
 
 use given::Given;
-use libc::{STDERR_FILENO, STDOUT_FILENO};
 use rules::LONGEST_STREAM;
 
 // A room for the longest plain stream, in zeros. A function of its own hides them: no proof can count so many.
@@ -14,25 +13,26 @@ fn longest_room() -> [u8; LONGEST_STREAM] {
 }
 
 // What is said of a stream, a refusal on standard error; whether it was written.
-fn write_said(refused: bool, text: &[u8]) -> bool {
+fn write_said(out: &impl Print, err: &impl Print, refused: bool, text: &[u8]) -> bool {
     if refused {
-        return io::write_all(STDERR_FILENO, text);
+        return err.write_all(text).is_ok();
     }
-    io::write_all(STDOUT_FILENO, text)
+    out.write_all(text).is_ok()
 }
 
-fn main() {
-    let w = given::measure_word(1, 2552);
-    let h = given::measure_word(2, 3304);
+fn main(rt: HostRuntime) {
+    let err = rt.stderr();
+    let w = given::measure_word(&rt, 1, 2552);
+    let h = given::measure_word(&rt, 2, 3304);
     let mut input = given::longest_input();
-    let Given::Job(n) = given::read_job(&mut input) else {
-        io::write_all(STDERR_FILENO, b"UNREAD\n");
+    let Given::Job(n) = given::read_job(&mut rt.stdin(), &mut input) else {
+        let _ = err.write_all(b"UNREAD\n");
         return;
     };
     let mut room = longest_room();
     let said = plain_say::say_plain(w, h, &input[..n], &mut room);
     let end = said.end;
-    if !write_said(said.refused, &room[..end]) {
-        io::write_all(STDERR_FILENO, b"UNWRITTEN\n");
+    if !write_said(&rt.stdout(), &err, said.refused, &room[..end]) {
+        let _ = err.write_all(b"UNWRITTEN\n");
     }
 }

@@ -7,7 +7,6 @@ ghost use Rattle.std.specs.Prelude.{◌≡◌, length};
 ghost use Rattle.report_laws.specs.Bound.{longest_report};
 
 use given::Given;
-use libc::{STDERR_FILENO, STDOUT_FILENO};
 
 // A room for the longest report, in zeros. A function of its own hides the zeros, of which no proof can count so many.
 fn longest_room() -> [u8; 2228358]
@@ -16,15 +15,16 @@ fn longest_room() -> [u8; 2228358]
     [0u8; 2228358]
 }
 
-fn main() {
+fn main(rt: HostRuntime) {
+    let err = rt.stderr();
     let mut input = [0u8; 65537];
-    let Given::Job(n) = given::read_job(&mut input) else {
-        io::write_all(STDERR_FILENO, b"UNREAD\n");
+    let Given::Job(n) = given::read_job(&mut rt.stdin(), &mut input) else {
+        let _ = err.write_all(b"UNREAD\n");
         return;
     };
     let mut room = longest_room();
     let end = report_write::write_report(&input[..n], &mut room);
-    if !io::write_all(STDOUT_FILENO, &room[..end]) {
-        io::write_all(STDERR_FILENO, b"UNWRITTEN\n");
+    if rt.stdout().write_all(&room[..end]).is_err() {
+        let _ = err.write_all(b"UNWRITTEN\n");
     }
 }

@@ -1,8 +1,8 @@
 -- What is held of a text's numbers is judged as the numbers are. Assumes nothing.
 use mathlib.Core.Path.{◌≡◌, refl, sym, ap, ◌∙◌}
-use mathlib.Core.Bool.{Bool, true, false, cond, ◌&&◌}
+use mathlib.Core.Bool.{Bool, true, false, cond}
 use mathlib.Core.List.{List, [], ◌∷◌, ◌++◌, map}
-use Prim.Native.Nat.{ℕ, zero, suc, ◌+◌, ◌-◌, ◌/◌, ◌≤◌, ◌<◌, min}
+use Prim.Native.Nat.{ℕ, zero, suc, ◌-◌, ◌≤◌}
 use native.Mathlib.Nat.{zero-add}
 use native.Mathlib.Omega.{arith}
 use lib.Dec.{leb}
@@ -14,16 +14,14 @@ use Rattle.common.proofs.Choices.{and_true, one_of-bounds}
 use Rattle.rules.specs.declared.Measure.{Measure}
 use Rattle.rules.specs.declared.Spot.{Spot}
 use Rattle.rules.specs.declared.State.{State}
-use Rattle.rules.specs.Measure.{allowed, LW, LH, measure_of, stack_holds, row_holds, origin, spot}
+use Rattle.rules.specs.Measure.{allowed, LW, LH, stack_holds, row_holds, origin}
 use Rattle.rules.specs.Sound.{in_page, all_in_page, resolutions, sound}
 use Rattle.rules.specs.States.{with_stack, with_seed, state_of}
-use Rattle.rules.specs.Forms.{Parked, parked_of, measured, JOB}
-use Rattle.rules.specs.Park.{of_numbers, Lines, stack_with, of_lines, depth_of, row_bytes, shape, parked_sound, given, not_sound, answered}
+use Rattle.rules.specs.Forms.{Parked, parked_of, measured}
+use Rattle.rules.specs.Park.{stack_with, depth_of, row_bytes, parked_sound, given, not_sound, answered}
 use Rattle.theorems.specs.Facts.{SoundState}
 use Rattle.theorems.proofs.Measures.{allowed_gives}
 use Rattle.theorems.proofs.Sound.{state_facts}
-use Rattle.park_laws.specs.Facts.{WellFormed}
-use Rattle.park_laws.proofs.Laws.{Taken, job_lawful}
 use Rattle.unpark_read.specs.Held.{low16, low8, held, judged_parked, held_parked}
 use Rattle.unpark_lines.specs.Answers.{low, low_spot}
 

@@ -1,8 +1,8 @@
 -- A text read line by line is what the rules read. Assumes nothing.
 use mathlib.Core.Path.{◌≡◌, refl, sym, ap, ◌∙◌}
-use mathlib.Core.Bool.{Bool, true, false}
+use mathlib.Core.Bool.{Bool}
 use mathlib.Core.List.{List, [], ◌∷◌}
-use Prim.Native.Nat.{ℕ, suc, ◌/◌, ◌≤◌, ◌<◌}
+use Prim.Native.Nat.{ℕ, ◌/◌, ◌≤◌, ◌<◌}
 use native.Mathlib.Omega.{arith}
 use lib.ListN.{length, drop, replicate, get_or, drop_of_length-le}
 use lib.Seq.{sets, drop-cons}
@@ -13,7 +13,7 @@ use Rattle.rules.specs.declared.Unparked.{Unparked}
 use Rattle.rules.specs.Measure.{row_holds}
 use Rattle.rules.specs.Texts.{Found, wrong, found, then, many, line_of, position, put_position, row}
 use Rattle.rules.specs.Forms.{Parked, flags_of, JOB}
-use Rattle.rules.specs.Park.{of_numbers, row_bytes, depth_of, Lines, lines_of, stack_with, of_lines, shape, lines, judged, read, read_refused, answered, unpark}
+use Rattle.rules.specs.Park.{of_numbers, row_bytes, depth_of, lines_of, stack_with, of_lines, shape, lines, judged, read, read_refused, unpark}
 use Rattle.park_laws.specs.Facts.{Fit, end, fit}
 use Rattle.park_laws.proofs.Written.{line_inv, many_inv, position_inv, row_inv}
 use Rattle.park_laws.proofs.Laws.{job_lawful}

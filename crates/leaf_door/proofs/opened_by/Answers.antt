@@ -1,8 +1,5 @@
-use Rattle.common.proofs.Choices.{choices, compound}
-use native.Mathlib.Omega.{arith}
+use Rattle.common.proofs.Choices.{choices}
 use borrow.Author.Rules.{rules}
-use Rattle.leaf_door.proofs.opened_by.Reads as reads
-use Rattle.leaf_door.proofs.opened_by.Lts as lts
 use Rattle.leaf_door.proofs.opened_by.Goals as goal
 
 -- src/lib.rt:233:1

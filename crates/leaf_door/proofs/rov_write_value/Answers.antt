@@ -1,9 +1,5 @@
 use Rattle.leaf_door.proofs.Laws.{wrote_relative, wrote_absolute}
-use native.Mathlib.Omega.{arith}
 use borrow.Author.Rules.{rules}
-use Rattle.leaf_door.proofs.rov_write_value.Reads as reads
-use Rattle.leaf_door.proofs.rov_write_value.Lts as lts
-use Rattle.number_write.proofs.write_value.Reads as write-value-reads
 use Rattle.leaf_door.proofs.rov_write_value.Goals as goal
 
 -- src/lib.rt:282:1

@@ -16,7 +16,7 @@ next-r-requires g c =
 
 pub refused_step-requires : goal.refused_step-requires
 refused_step-requires g c =
-    stepping_carried c.loop-end.invariant.stepping c.requires.h_value c.requires.s_len_bound _ c.next-r.ensures.0 c.in_default.is
+    absurd (stepping_carried c.loop-end.invariant.stepping c.requires.h_value c.requires.s_len_bound _ c.next-r.ensures.0 c.in_default.is)
 
 pub loop-end-smaller : goal.loop-end-smaller
 loop-end-smaller g c =

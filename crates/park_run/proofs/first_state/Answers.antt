@@ -1,6 +1,5 @@
 -- `park_run::first_state` meets its contract. Assumes nothing.
 use mathlib.Core.Path.{refl, sym, ap, ◌∙◌}
-use borrow.Author.Rules.{rules}
 use Rattle.rules.specs.States.{afresh}
 use Rattle.park_laws.proofs.Sounds.{bounded}
 use Rattle.park_run.proofs.first_state.Goals as goal

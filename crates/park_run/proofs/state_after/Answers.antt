@@ -2,9 +2,8 @@
 -- Assumes nothing.
 use native.Mathlib.Omega.{arith}
 use borrow.Author.Rules.{rules}
-use Rattle.dot_page.specs.Zeros.{FirstZero}
 use Rattle.run.proofs.Ready.{none_known}
-use Rattle.park_run.proofs.Runs.{Doing, doing_start, doing_few, doing_less, doing_beyond, doing_again, doing_end}
+use Rattle.park_run.proofs.Runs.{doing_start, doing_few, doing_less, doing_beyond, doing_again, doing_end}
 use Rattle.park_run.proofs.state_after.Goals as goal
 
 pub loop-o-init : goal.loop-o-init

@@ -1,10 +1,7 @@
 -- `park_run::state_after` meets its contract. The invariant: with the items that are still allowed it is the state asked for; the measure: those items.
 -- Assumes nothing.
-use native.Mathlib.Omega.{arith}
-use borrow.Author.Rules.{rules}
 use Rattle.dot_page.specs.Zeros.{FirstZero}
-use Rattle.run.proofs.Ready.{none_known}
-use Rattle.park_run.proofs.Runs.{Doing, doing_start, doing_few, doing_less, doing_beyond, doing_again, doing_end}
+use Rattle.park_run.proofs.Runs.{Doing}
 use Rattle.park_run.proofs.state_after.Given as goal
 
 abbrev pub invariant-loop-o : goal.invariant-loop-o

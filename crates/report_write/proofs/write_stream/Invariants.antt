@@ -1,12 +1,9 @@
 -- `report_write::write_stream` meets its contract. The invariant: with the lines that are left all are written; the measure: what is left to read.
 -- The facts are named by their places, since a search does not reach through so many. Assumes nothing.
-use native.Mathlib.Omega.{arith}
-use borrow.Author.Rules.{rules}
 use Rattle.theorems.proofs.Reading.{left}
 use lib.ListN.{drop}
 use Rattle.dot_page.specs.Zeros.{FirstZero}
-use Rattle.run.proofs.Ready.{none_known}
-use Rattle.report_laws.proofs.Reporting.{page_allowed, Reporting, reporting_start, reporting_less, reporting_again, reporting_end}
+use Rattle.report_laws.proofs.Reporting.{Reporting}
 use Rattle.report_write.proofs.write_stream.Given as goal
 
 abbrev pub invariant-loop-o : goal.invariant-loop-o

@@ -1,10 +1,6 @@
 -- `run::run` meets its contract. Assumes nothing.
-use Rattle.rules.specs.contracts.Spot as spot
-use mathlib.Core.Path.{sym, ◌∙◌}
-use lib.ListN.{length-map}
 use Rattle.run.proofs.Answers.{no_measure, fits, no_buffer, no_stream, no_state_lem, is_sound, no_place, carried, area_fits, part_long}
 use Rattle.run.proofs.Ready.{known_part, known_before}
-use Rattle.theorems.specs.Facts.{Fits}
 use native.Mathlib.Nat.{sub-zero}
 use borrow.Author.Rules.{rules}
 use Rattle.run.proofs.run.Goals as goal

@@ -1,6 +1,5 @@
 -- `unpark_lines::more_digits` meets its contract. The loop's invariant: what is left, behind the number so far, makes the whole number. Assumes nothing.
-use Prim.Native.Nat.{◌-◌}
-use Rattle.unpark_lines.proofs.Digits.{Digiting, digits_past, digiting_start, digiting_small, digiting_again, digiting_stop, digiting_end, digit_under, digit_over}
+use Rattle.unpark_lines.proofs.Digits.{digits_past, digiting_start, digiting_small, digiting_again, digiting_stop, digiting_end, digit_under, digit_over}
 use borrow.Author.Rules.{rules}
 use Rattle.unpark_lines.proofs.more_digits.Goals as goal
 

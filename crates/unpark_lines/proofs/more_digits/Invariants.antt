@@ -1,7 +1,6 @@
 -- `unpark_lines::more_digits` meets its contract. The loop's invariant: what is left, behind the number so far, makes the whole number. Assumes nothing.
 use Prim.Native.Nat.{◌-◌}
-use Rattle.unpark_lines.proofs.Digits.{Digiting, digits_past, digiting_start, digiting_small, digiting_again, digiting_stop, digiting_end, digit_under, digit_over}
-use borrow.Author.Rules.{rules}
+use Rattle.unpark_lines.proofs.Digits.{Digiting}
 use Rattle.unpark_lines.proofs.more_digits.Given as goal
 
 abbrev pub invariant-loop-i : goal.invariant-loop-i

@@ -1,9 +1,5 @@
 -- `unpark_lines::read_numbers` meets its contract. The loop's invariant: the numbers that are read are stored, and with those that are left they are all. Assumes nothing.
-use Prim.Native.Nat.{◌-◌}
-use lib.ListN.{length, drop, replicate}
-use Rattle.rules.specs.Texts.{numbers}
-use Rattle.unpark_lines.specs.Answers.{kinds_of}
-use Rattle.unpark_lines.proofs.Going.{Going, going_start}
+use Rattle.unpark_lines.proofs.Going.{going_start}
 use Rattle.unpark_lines.proofs.Numbers.{numbers_again, numbers_wrong, numbers_unended, numbers_end}
 use borrow.Author.Rules.{rules}
 use Rattle.unpark_lines.proofs.read_numbers.Goals as goal

@@ -3,9 +3,7 @@ use Prim.Native.Nat.{◌-◌}
 use lib.ListN.{length, drop, replicate}
 use Rattle.rules.specs.Texts.{numbers}
 use Rattle.unpark_lines.specs.Answers.{kinds_of}
-use Rattle.unpark_lines.proofs.Going.{Going, going_start}
-use Rattle.unpark_lines.proofs.Numbers.{numbers_again, numbers_wrong, numbers_unended, numbers_end}
-use borrow.Author.Rules.{rules}
+use Rattle.unpark_lines.proofs.Going.{Going}
 use Rattle.unpark_lines.proofs.read_numbers.Given as goal
 
 abbrev pub invariant-loop-i : goal.invariant-loop-i

@@ -1,8 +1,6 @@
 -- `unpark_lines::read_pairs` meets its contract. The loop's invariant: the bytes that are read are stored, and with those that are left they are all. Assumes nothing.
-use Prim.Native.Nat.{◌-◌}
-use lib.ListN.{drop, replicate}
-use Rattle.rules.specs.Texts.{many, pair}
-use Rattle.unpark_lines.proofs.Going.{Going, many_start, many_again, many_wrong, many_end}
+use Rattle.rules.specs.Texts.{pair}
+use Rattle.unpark_lines.proofs.Going.{many_start, many_again, many_wrong, many_end}
 use Rattle.unpark_lines.proofs.Pairs.{byte_told, no_byte_told}
 use borrow.Author.Rules.{rules}
 use Rattle.unpark_lines.proofs.read_pairs.Goals as goal

@@ -2,9 +2,7 @@
 use Prim.Native.Nat.{◌-◌}
 use lib.ListN.{drop, replicate}
 use Rattle.rules.specs.Texts.{many, pair}
-use Rattle.unpark_lines.proofs.Going.{Going, many_start, many_again, many_wrong, many_end}
-use Rattle.unpark_lines.proofs.Pairs.{byte_told, no_byte_told}
-use borrow.Author.Rules.{rules}
+use Rattle.unpark_lines.proofs.Going.{Going}
 use Rattle.unpark_lines.proofs.read_pairs.Given as goal
 
 abbrev pub invariant-loop-i : goal.invariant-loop-i

@@ -1,10 +1,6 @@
 -- `unpark_lines::read_positions` meets its contract. The loop's invariant: the positions that are read are stored, and with those that are left they are all. Assumes nothing.
-use Prim.Native.Nat.{◌-◌}
-use lib.ListN.{drop, replicate}
-use Rattle.rules.specs.Measure.{origin}
-use Rattle.rules.specs.Texts.{many}
 use Rattle.unpark_lines.specs.Answers.{low_position}
-use Rattle.unpark_lines.proofs.Going.{Going, many_start, many_again, many_wrong, many_end}
+use Rattle.unpark_lines.proofs.Going.{many_start, many_again, many_wrong, many_end}
 use Rattle.unpark_lines.proofs.Positions.{stacked, spot_told, no_spot_told}
 use borrow.Author.Rules.{rules}
 use Rattle.unpark_lines.proofs.read_positions.Goals as goal

@@ -4,9 +4,7 @@ use lib.ListN.{drop, replicate}
 use Rattle.rules.specs.Measure.{origin}
 use Rattle.rules.specs.Texts.{many}
 use Rattle.unpark_lines.specs.Answers.{low_position}
-use Rattle.unpark_lines.proofs.Going.{Going, many_start, many_again, many_wrong, many_end}
-use Rattle.unpark_lines.proofs.Positions.{stacked, spot_told, no_spot_told}
-use borrow.Author.Rules.{rules}
+use Rattle.unpark_lines.proofs.Going.{Going}
 use Rattle.unpark_lines.proofs.read_positions.Given as goal
 
 abbrev pub invariant-loop-i : goal.invariant-loop-i

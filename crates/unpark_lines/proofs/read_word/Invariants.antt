@@ -1,10 +1,8 @@
 -- `unpark_lines::read_word` meets its contract. The loop's invariant: what is left of the word is there if all of it is. Assumes nothing.
-use mathlib.Core.Path.{◌≡◌, refl}
+use mathlib.Core.Path.{◌≡◌}
 use Prim.Native.Nat.{◌-◌}
 use lib.ListN.{length, drop}
 use Rattle.rules.specs.Texts.{expect_all}
-use Rattle.unpark_lines.proofs.Words.{word_again, word_wrong, word_end}
-use borrow.Author.Rules.{rules}
 use Rattle.unpark_lines.proofs.read_word.Given as goal
 
 abbrev pub invariant-loop-i : goal.invariant-loop-i

@@ -1,6 +1,5 @@
 -- `unpark_say::write_margins` meets its contract. Assumes nothing.
 use Rattle.unpark_say.proofs.Members.{wrote_four_members}
-use borrow.Author.Rules.{rules}
 use Rattle.unpark_say.proofs.write_margins.Goals as goal
 
 pub returns : goal.returns

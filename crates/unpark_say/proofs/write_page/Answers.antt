@@ -1,6 +1,5 @@
 -- `unpark_say::write_page` meets its contract. Assumes nothing.
 use Rattle.unpark_say.proofs.Members.{wrote_four_members}
-use borrow.Author.Rules.{rules}
 use Rattle.unpark_say.proofs.write_page.Goals as goal
 
 pub returns : goal.returns
