@@ -19,7 +19,9 @@ careful=(python3 -B "$root/tests/careful.py")
 
 # checkout FOLDER: all of a checkout but its sources, and nothing built.
 checkout() {
+  local name
   mkdir -p "$1/tests" "$1/crates" "$1/include"
+  for name in "${programs[@]}" door; do mkdir -p "$1/crates/$name"; done
   cp -R "$root/rovinuset" "$root/tools" "$root/VERSION" "$root/crates.txt" "$1"
   cp "$root/tests/need.sh" "$root/tests/x86.sh" "$root/tests/archives.sh" "$1/tests"
   touch -d '2 hours ago' "$1/crates.txt" "$1/crates"
@@ -38,29 +40,33 @@ instead() {
 }
 # unfaked: all programs are the proved ones again.
 unfaked() { cp "$PROGRAMS"/* faked/target/bin; }
-# kit: an `rt` that proves nothing. It says so of a crate as rt does, notes its begin and its end in $RT_LOG, and behind that has the programs. $RT_DOES
-# says what happens between: waits (a child of its own does, as with rt), held (until the file $LET is there), slow, fails.
+# kit: an `rt` that proves nothing. In a crate's folder it says of two crates that it begins to prove them, as rt does, notes its own begin and its end in $RT_LOG,
+# and behind that has the program or the library in out/; a program it runs, and ends as that does. $RT_DOES says what happens between: waits (a child of its own
+# does, as with rt), held (until the file $LET is there), slow, fails.
 kit() {
   mkdir -p kit/bin
   cat >kit/bin/rt <<'TEXT'
 #!/bin/sh
-echo "begin $*" >>"$RT_LOG"
-echo "rt: common proved (1 s)"
+name=$(basename "$PWD")
+echo "begin $* $name" >>"$RT_LOG"
+echo "rt: chose --jobs 2 for common"
+echo "rt: chose --jobs 2 for rules"
 [ -z "${STAGE-}" ] || : >"$STAGE"
 case ${RT_DOES-} in
 waits) sleep 600 ;;
 held) n=0; while [ ! -e "$LET" ] && [ $n -lt 200 ]; do sleep 0.05; n=$((n + 1)); done ;;
 slow) sleep 0.6 ;;
-fails) echo "rt: pages is not proved"; exit 1 ;;
+fails) echo "logic=not-proved functions=1"; exit 1 ;;
 esac
-mkdir -p target/bin target/staticlib
-word=$1
-shift
-for name; do
-  case $word in check) cp "$PROGRAMS/$name" target/bin/ ;; *) echo library >"target/staticlib/lib$name.a" ;; esac
-done
-echo "rt: ok, 1 crates proved"
+mkdir -p out
+case $1 in
+run) cp "$PROGRAMS/$name" out/ ;;
+lib) echo library >"out/lib$name.a" ;;
+*) exit 2 ;;
+esac
+echo "logic=proved functions=1"
 echo "end" >>"$RT_LOG"
+[ "$1" != run ] || exec "out/$name"
 TEXT
   chmod +x kit/bin/rt
   local real
@@ -675,7 +681,7 @@ two_builds() {
   wait "$first" || ended=$?
   must "the first ends with $ended: $(cat first.errors)" [ "$ended" -eq 0 ]
   must "the second ends with $status" [ "$status" -eq 0 ]
-  must "no rt was called, so this shows nothing" grep -q '^begin check pages$' "$RT_LOG"
+  must "no rt was called, so this shows nothing" grep -q '^begin run pages$' "$RT_LOG"
   must "rt runs twice at a time: $(cat "$RT_LOG")" [ "$(awk '$1 == "begin" && within++ { print } $1 == "end" { within-- }' "$RT_LOG")" = "" ]
   must "something is proved twice: $(cat "$RT_LOG")" [ "$(grep begin "$RT_LOG" | sort | uniq -d)" = "" ]
   unchanged built-1 three.drawn
@@ -1410,12 +1416,12 @@ building() {
   RT_DOES=fails run "draw, where the proof fails" slow/rovinuset draw 640 800 clean.pcl -o none
   must "status $status, not 2" [ "$status" -eq 2 ]
   must "does not say where it is told" grep -q '^rovinuset: pages was not built: .*target/rovinuset.log says why$' errors
-  must "the log does not tell it" grep -qx 'rt: pages is not proved' slow/target/rovinuset.log
+  must "the log does not tell it" grep -qx 'logic=not-proved functions=1' slow/target/rovinuset.log
   absent none slow/target/bin/pages
   RT_DOES=fails run "archive, where the proof fails" slow/rovinuset archive -o none
   must "status $status, not 2" [ "$status" -eq 2 ]
   must "does not say where it is told" grep -q '^rovinuset: .*door was not built: .*target/rovinuset.log says why$' errors
-  must "the log does not tell it" grep -qx 'rt: pages is not proved' slow/target/rovinuset.log
+  must "the log does not tell it" grep -qx 'logic=not-proved functions=1' slow/target/rovinuset.log
   absent none
 }
 

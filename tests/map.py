@@ -85,9 +85,9 @@ def blocks():
     """The families of crates.txt: comment lines, and crates with what they use. The paragraph before them is the file's own head."""
     for part in re.split(r"\n\s*\n", text("crates.txt").strip())[1:]:
         lines = part.split("\n")
-        crates = [line.partition(":") for line in lines if not line.startswith("#")]
+        crates = [line.partition(":") for line in lines if not line.startswith("#")]  # `NAME: deps`, or `NAME staticlib: deps`
         comments = [place for place, line in enumerate(lines) if line.startswith("#")]
-        yield comments, {name: deps.split() for name, _, deps in crates}
+        yield comments, {head.split()[0]: deps.split() for head, _, deps in crates}
 
 
 def wrong_order(layers, arrows):
@@ -176,10 +176,10 @@ def numbered(function, file, form):
 def commands():
     """The commands that the rules spell and those that the code chooses, as `&a#C Column`."""
     rules, code = text("crates/rules/specs/Commands.antt"), text("crates/read_command/src/lib.rt")
-    without = re.findall(r"^useOf (\w+) = ignored$", rules, re.M)
+    without = re.findall(r"^use_of (\w+) = ignored$", rules, re.M)
     spelled = re.findall(r"^spelled (\w+) = spelling (\d+) (\d+) (\d+)\b", rules, re.M)
-    spelled += [(name.capitalize(), *bytes) for name, *bytes in re.findall(r"^(\w+)Spelled = spelling (\d+) (\d+) (\d+)\b", rules, re.M)]
-    for first, group, body in re.findall(r"chosen (\d+) (\d+) letter v ⌝ \}\n\{(.*?)^\}", code, re.M | re.S):
+    spelled += [(name.capitalize(), *bytes) for name, *bytes in re.findall(r"^(\w+)_spelled = spelling (\d+) (\d+) (\d+)\b", rules, re.M)]
+    for first, group, body in re.findall(r"chosen (\d+) (\d+) letter v \}\n\{(.*?)^\}", code, re.M | re.S):
         chosen = re.findall(r"b'(.)' => Command::(?:Valued\(Kind::)?(\w+)", body)
         spelled += [(name, first, group, ord(letter)) for letter, name in chosen]
     return {"%c%c%s%c %s" % (int(f), int(g), "" if name in without else "#", int(l), name) for name, f, g, l in spelled}
@@ -187,7 +187,7 @@ def commands():
 
 def texts():
     """The bytes that are text, as `32..126, 128..255 text`."""
-    ranges = re.findall(r"^isText b = (.*)$", text("crates/rules/specs/Items.antt"), re.M)
+    ranges = re.findall(r"^is_text b = (.*)$", text("crates/rules/specs/Items.antt"), re.M)
     return {", ".join("%s..%s" % pair for pair in re.findall(r"within (\d+) (\d+) b", line)) + " text" for line in ranges}
 
 
@@ -214,12 +214,12 @@ def theorems():
 
 WANTED = {
     "command": commands,
-    "code": lambda: numbered("codeByte", "Codes", lambda number, case: "%d %s" % (number, case)),
+    "code": lambda: numbered("code_byte", "Codes", lambda number, case: "%d %s" % (number, case)),
     "text": texts,
-    "two-byte command": lambda: numbered("escapeByte", "Codes", lambda number, case: "ESC %c %s" % (number, case)),
+    "two-byte command": lambda: numbered("escape_byte", "Codes", lambda number, case: "ESC %c %s" % (number, case)),
     "row method": methods,
-    "finding": lambda: numbered("findingNumber", "Findings", lambda number, case: "finding %d %s" % (number, case)),
-    "refusal": lambda: numbered("refusalNumber", "Findings", lambda number, case: "refusal %d %s" % (number, case)),
+    "finding": lambda: numbered("finding_number", "Findings", lambda number, case: "finding %d %s" % (number, case)),
+    "refusal": lambda: numbered("refusal_number", "Findings", lambda number, case: "refusal %d %s" % (number, case)),
     "program": lambda: {path.split(os.sep)[1] for path in found("crates/*/src/main.rt")},
     "word of ./rovinuset": words,
     "call of the library": calls,

@@ -58,7 +58,7 @@ OTHERS = {
 OTHERS = {word for words in OTHERS.values() for word in words.split()} | trace.FUNCTION_WORDS | trace.TEST_WORDS
 TRACE = "docs/TRACE.md"
 SPAN = re.compile(r"`([^`\n]+)`")
-SKIPPED = {"target", ".git", "__pycache__"}
+SKIPPED = {"target", "out", ".git", "__pycache__"}
 faults, looked = [], collections.Counter()
 
 
@@ -457,7 +457,7 @@ def wrong_cases():
 def wrong_lists():
     """README.md: the numbers and the files of the rules. docs/SPEED.md: the tables that are printed. docs/DECISIONS.md: the dates."""
     numbers = {number for cells in table(under("README.md", "## What the numbers mean")) for number in (cells[0], cells[2]) if number}
-    there = {str(int(number)) for number in re.findall(r"^(?:finding|refusal)Number \w+ = (\d+)$", text("crates/rules/specs/Findings.antt"), re.M)} - {"0"}
+    there = {str(int(number)) for number in re.findall(r"^(?:finding|refusal)_number \w+ = (\d+)$", text("crates/rules/specs/Findings.antt"), re.M)} - {"0"}
     if numbers != there:
         yield "README.md: the numbers %s are in one of its table and Findings.antt only" % " ".join(sorted(numbers ^ there))
     listed = re.search(r"^\| believe the rules \| `crates/rules/specs`: ([\w, ]+) \|$", text("README.md"), re.M)

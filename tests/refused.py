@@ -9,7 +9,7 @@ proves facts of it is checked. An edit in tests/edits has the lines
     file:, old:, new:   as in a must-fail edit; old stands in the file once
     error: TEXT         the first error must hold this text: the fact that fails
 
-The crates are copied to a folder of their own, with what rt has proved of them; what is not proved is proved there first. Edits are tried in
+The crates are copied to a folder of their own and proved there first, where rt begins with what its checks on this machine kept. Edits are tried in
 copies of that, side by side. A line for each edit, then the counts; exit status 1 if the copy is not proved, an edit does not apply, is not refused, or is refused for another reason.
 """
 import concurrent.futures
@@ -17,6 +17,7 @@ import os
 import queue
 import re
 import shutil
+import signal
 import subprocess
 import sys
 import tempfile
@@ -38,8 +39,8 @@ def crates():
     for line in open(os.path.join(ROOT, "crates.txt"), encoding="utf-8"):
         line = line.split("#")[0].strip()
         if line:
-            name, _, deps = line.partition(":")
-            lines[name.strip()] = deps.split()
+            head, _, deps = line.partition(":")
+            lines[head.split()[0]] = deps.split()
     return lines
 
 
@@ -53,18 +54,14 @@ def edit_of(path):
     return parts, missing
 
 
-def take_over(folder, name):
-    """Copies what rt keeps of a proved crate. By its stamp rt itself sees whether it is of these very files."""
-    library, stamp = (os.path.join(ROOT, "target", *parts) for parts in (("rlib", name + ".rlib"), ("stamp", name)))
-    if os.path.isdir(library) and os.path.isfile(stamp):
-        shutil.copytree(library, os.path.join(folder, "target", "rlib", name + ".rlib"))
-        os.makedirs(os.path.join(folder, "target", "stamp"), exist_ok=True)
-        shutil.copy(stamp, os.path.join(folder, "target", "stamp", name))
+def beside_sources(folder, _):
+    """What of a crate's folder no check reads."""
+    return ("must-fail", "out") if os.path.dirname(folder) == os.path.join(ROOT, "crates") else ()
 
 
-def check(folder, name):
-    done = subprocess.run(["rt", "check", name], cwd=folder, stdout=subprocess.PIPE, stderr=subprocess.STDOUT,
-                          env=dict(os.environ, LC_ALL="C", RT_CUT="0"))
+def check(folder, name, *flags):
+    done = subprocess.run(["rt", "check", *flags], cwd=os.path.join(folder, "crates", name), stdin=subprocess.DEVNULL,
+                          stdout=subprocess.PIPE, stderr=subprocess.STDOUT, env=dict(os.environ, LC_ALL="C"))
     return done.returncode, done.stdout.decode("utf-8", "replace")
 
 
@@ -75,7 +72,7 @@ def tried(folder, parts):
     if text.count(parts["old"]) != 1:
         return "the old text stands %d times in %s" % (text.count(parts["old"]), parts["file"])
     open(path, "w", encoding="utf-8").write(text.replace(parts["old"], parts["new"]))
-    status, said = check(folder, parts["check"])
+    status, said = check(folder, parts["check"], "--jobs", "1")
     open(path, "w", encoding="utf-8").write(text)
     if status == 0:
         return "NOT REFUSED"
@@ -92,20 +89,18 @@ def main():
     folder_of_edits = os.path.join(ROOT, "tests", "edits")
     names = sorted(name for name in os.listdir(folder_of_edits) if name.endswith(".edit"))
     failed = 0
+    signal.signal(signal.SIGTERM, lambda *_: sys.exit(1))  # stopped, it leaves no copies
     with tempfile.TemporaryDirectory() as place:
         folder = os.path.join(place, "crates-as-they-are")
-        wanted = set()
-        for name in names:
-            wanted |= needed(edit_of(os.path.join(folder_of_edits, name))[0]["check"], lines)
+        checked = {edit_of(os.path.join(folder_of_edits, name))[0]["check"] for name in names}
+        wanted = set().union(*(needed(name, lines) for name in checked))
         for name in wanted:
-            source, target = os.path.join(ROOT, "crates", name), os.path.join(folder, "crates", name)
-            shutil.copytree(source, target, ignore=shutil.ignore_patterns("must-fail"))
-            take_over(folder, name)
+            shutil.copytree(os.path.join(ROOT, "crates", name), os.path.join(folder, "crates", name), ignore=beside_sources)
         with open(os.path.join(folder, "crates.txt"), "w", encoding="utf-8") as out:
             for name in lines:
                 if name in wanted:
                     out.write("%s: %s\n" % (name, " ".join(lines[name])))
-        for name in sorted(wanted):
+        for name in sorted(checked):
             status, said = check(folder, name)
             if status != 0:
                 sys.exit("refused.py: %s is not proved before any edit:\n%s" % (name, said[-2000:]))

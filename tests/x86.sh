@@ -25,18 +25,31 @@ else
   x86_run() { "$x86_emulator" "$@"; }
 fi
 
-# by_rt FILE RT-WORDS..: FILE, proved and made by this rt command where it is missing or older than a source. To be called at the project's root.
+# taken MADE FILE: what rt made, under target/. Whoever runs FILE meanwhile keeps the one that was there.
+taken() {
+  mkdir -p "$(dirname "$2")"
+  cp "$1" "$2.new"
+  mv "$2.new" "$2"
+}
+# stale FILE: it is missing or older than a source. What rt makes lies in crates/NAME/out, and changes the folder crates/NAME itself.
+stale() {
+  [ ! -e "$1" ] || [ -n "$(find crates crates.txt -regex 'crates/[^/]*/out' -prune -o -newer "$1" ! -regex 'crates/[^/]*' -print -quit)" ]
+}
+# by_rt FILE CRATE RT-WORD: FILE, proved and made by this rt command in the crate's folder, where it is stale. To be called at the project's root.
 by_rt() {
-  local file=$1 said
-  shift
-  [ ! -e "$file" ] || [ -n "$(find crates crates.txt -newer "$file" -print -quit)" ] || return 0
-  said=$(rt "$@" 2>&1) || {
+  local file=$1 made said
+  stale "$file" || return 0
+  made=crates/$2/out/${file##*/}
+  rm -f "$made" # so that it is of this call if it is there behind it
+  said=$(cd "crates/$2" && rt "$3" 2>&1 </dev/null) || :
+  [ -e "$made" ] || {
     printf '%s\n' "$said" >&2
     exit 1
   }
-  touch "$file"
+  taken "$made" "$file"
 }
 
 # archive CRATE: target/staticlib/libCRATE.a. proved_program CRATE: target/bin/CRATE.
-archive() { by_rt "target/staticlib/lib$1.a" staticlib "$1"; }
-proved_program() { by_rt "target/bin/$1" check "$1"; }
+# No word of rt builds a program and does not run it: it runs once, on no words and no input, and rt ends as it does.
+archive() { by_rt "target/staticlib/lib$1.a" "$1" lib; }
+proved_program() { by_rt "target/bin/$1" "$1" run; }

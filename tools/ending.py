@@ -2,6 +2,7 @@
 
 import os
 import select
+import stat
 
 import files
 
@@ -26,6 +27,16 @@ def write_all(number, data):
             select.select([], [number], [])
         except BrokenPipeError as error:
             raise Quiet from error
+
+
+def unread(number):
+    """Whether this is a pipe or a connection whose reader has gone away. A program of the kit is not ended by that: its write fails as any other."""
+    kind = os.fstat(number).st_mode
+    if not stat.S_ISFIFO(kind) and not stat.S_ISSOCK(kind):
+        return False
+    asked = select.poll()
+    asked.register(number, 0)
+    return bool(asked.poll(0))
 
 
 def print_lines(number, lines):

@@ -1,6 +1,5 @@
 """The pages of a job as PBM on standard output, one after the other, and the program's lines on standard error: what other tools read."""
 
-import signal
 import subprocess
 
 import ending
@@ -22,10 +21,8 @@ def write_pages(call, command):
             lines.take(line.decode("ascii", "replace"))
             if lines.strange is None and unwritten is None:
                 unwritten = not_written(line)
-    if process.returncode == -signal.SIGPIPE:
-        raise ending.Quiet
     if lines.strange == "UNWRITTEN":
-        raise ending.Wrong("pages: the pages could not be written")
+        raise ending.Quiet if ending.unread(1) else ending.Wrong("pages: the pages could not be written")
     pages.agreed(lines, [])
     if unwritten is not None:
         raise unwritten

@@ -10,7 +10,7 @@ import signal
 import subprocess
 import threading
 import time
-from contextlib import contextmanager
+from contextlib import contextmanager, suppress
 
 import ending
 import files
@@ -20,14 +20,17 @@ import stopping
 ROOT = os.path.dirname(os.path.dirname(os.path.abspath(__file__)))
 TARGET = os.path.join(ROOT, "target")
 LOG = os.path.join(TARGET, "rovinuset.log")
-PROVED = re.compile(rb"^rt: \w+ proved")
+BEGUN = re.compile(rb"^rt: chose --jobs \d+ for (\w+)$")  # rt's line as it begins to prove a crate
 
 
 class Made:
-    """What rt makes of a crate: its file, and rt's word for it."""
+    """What rt makes of a crate: its file, as rt leaves it in the crate's folder and as it is kept here, and rt's word for it."""
 
-    def __init__(self, name, path, word):
-        self.name, self.path, self.word = name, os.path.join(TARGET, path), word
+    def __init__(self, name, place, file, word):
+        self.name, self.word = name, word
+        self.path = os.path.join(TARGET, place, file)
+        self.folder = os.path.join(ROOT, "crates", name)
+        self.by_rt = os.path.join(self.folder, "out", file)
 
     def fresh(self):
         """Whether it is there and no source is newer."""
@@ -35,19 +38,24 @@ class Made:
 
 
 def program(name):
-    return Made(name, f"bin/{name}", "check")
+    return Made(name, "bin", name, "run")  # no word of rt builds a program and does not run it: it runs once, on no words and no input
 
 
 def library(name):
-    return Made(name, f"staticlib/lib{name}.a", "staticlib")
+    return Made(name, "staticlib", f"lib{name}.a", "lib")
 
 
 @functools.lru_cache(None)
 def newest():
-    """When the last of the sources, or of their folders, was changed."""
+    """When the last of the sources, or of their folders, was changed. What rt makes lies in crates/NAME/out, and changes the folder crates/NAME itself."""
+    crates = os.path.join(ROOT, "crates")
     found = [os.path.join(ROOT, "crates.txt")]
-    for folder, _, names in os.walk(os.path.join(ROOT, "crates")):
-        found += [folder, *(os.path.join(folder, name) for name in names)]
+    for folder, folders, names in os.walk(crates):
+        if os.path.dirname(folder) == crates:
+            folders[:] = [one for one in folders if one != "out"]
+        else:
+            found.append(folder)
+        found += [os.path.join(folder, name) for name in names]
     return max(os.lstat(path).st_mtime_ns for path in found)
 
 
@@ -63,9 +71,13 @@ def can_be_had(wanted):
 def can_be_built(made):
     if not shutil.which("rt"):
         raise ending.Wrong(f"the Rattle kit (rt) is not here: {made.name} cannot be proved and built")
-    place = TARGET if os.path.lexists(TARGET) else ROOT
-    if not os.path.isdir(place) or not os.access(place, os.W_OK | os.X_OK):
-        raise ending.Wrong(f"{made.name} cannot be proved and built: no permission to write in: {files.printed(place)}")
+    places = [TARGET if os.path.lexists(TARGET) else ROOT]
+    if os.path.isdir(made.folder):
+        out = os.path.dirname(made.by_rt)
+        places.append(out if os.path.lexists(out) else made.folder)
+    for place in places:
+        if not os.path.isdir(place) or not os.access(place, os.W_OK | os.X_OK):
+            raise ending.Wrong(f"{made.name} cannot be proved and built: no permission to write in: {files.printed(place)}")
 
 
 def build(wanted):
@@ -93,24 +105,34 @@ def build_alone(made):
 def build_one(made):
     ending.notice(f"proving and building {made.name}, which takes some minutes the first time")
     began = time.time_ns()
-    status = run_rt(made)
-    if status or not os.path.isfile(made.path):
+    with suppress(FileNotFoundError):
+        os.remove(made.by_rt)
+    run_rt(made)
+    # rt run ends as the program does, and so by no status of its own: what is there now was proved and built now
+    if not os.path.isfile(made.by_rt):
         raise ending.Wrong(f"{made.name} was not built: {files.printed(LOG)} says why")
-    os.utime(made.path, ns=(began, began))  # rt leaves a file that comes out the same as it was
+    os.makedirs(os.path.dirname(made.path), exist_ok=True)
+    new = made.path + ".new"
+    shutil.copy(made.by_rt, new)
+    os.utime(new, ns=(began, began))  # a source that was changed meanwhile is newer
+    os.replace(new, made.path)
 
 
 def run_rt(made):
-    """rt's exit status. What it says goes to the log."""
-    proved, of = [], len(needed(made.name))
-    with open(LOG, "wb") as log, progress.Progress(lambda: f"{len(proved)} of {of} proved"):
+    """Has rt prove and build it. What it says goes to the log."""
+    order, begun = needed(made.name), []
+    with open(LOG, "wb") as log, progress.Progress(lambda: f"{order.index(begun[-1]) if begun else 0} of {len(order)} proved"):
+        if not os.path.isdir(made.folder):
+            log.write(b"no folder %s\n" % os.fsencode(made.folder))
+            return
         with running(
-            ["rt", made.word, made.name], cwd=ROOT, env={**os.environ, "LC_ALL": "C"}, stdout=subprocess.PIPE, stderr=subprocess.STDOUT
+            ["rt", made.word], cwd=made.folder, env={**os.environ, "LC_ALL": "C"}, stdout=subprocess.PIPE, stderr=subprocess.STDOUT
         ) as rt:
             for line in rt.stdout:
                 log.write(line)
-                if PROVED.match(line):
-                    proved.append(line)
-    return rt.returncode
+                told = BEGUN.match(line)
+                if told and told[1].decode() in order:
+                    begun.append(told[1].decode())
 
 
 @contextmanager
@@ -167,15 +189,18 @@ def end(process):
 
 
 def needed(name):
-    """A crate and all of crates.txt that it depends on; what is not there is the kit's."""
+    """All of crates.txt that a crate depends on, in the order in which rt proves it, and the crate last; what is not there is the kit's."""
     with open(os.path.join(ROOT, "crates.txt"), encoding="utf-8") as file:
-        depends = dict(re.findall(r"^(\w+):(.*)$", file.read(), re.M))
-    found, left = set(), [name]
-    while left:
-        one = left.pop()
+        depends = dict(re.findall(r"^(\w+)(?: \w+)*:(.*)$", file.read(), re.M))
+    found = []
+
+    def add(one):
         if one in depends and one not in found:
-            found.add(one)
-            left += depends[one].split()
+            for below in depends[one].split():
+                add(below)
+            found.append(one)
+
+    add(name)
     return found
 
 
