@@ -2,17 +2,14 @@
 use Prim.{tt}
 use mathlib.Core.Path.{◌≡◌, refl}
 use mathlib.Core.Bool.{Bool, true, false, cond}
-use Prim.Native.Nat.{ℕ, ◌≤◌, ◌<◌}
+use Prim.Native.Nat.{ℕ, ◌≤◌}
 use native.Mathlib.Omega.{arith}
 use lib.Dec.{eqb, ltb}
-use borrow.Author.Tests.{ltb-true, lt-ltb, le-ltb, ne_eqb}
+use borrow.Author.Tests.{ltb-true}
 use Rattle.rules.specs.declared.Measure.{Measure}
 use Rattle.rules.specs.declared.Kind.{Kind}
 use Rattle.rules.specs.declared.Kind.TheVariants.{Column, DecipointAcross, DotAcross, DecipointDown, DotDown, Line, LeftMargin, RightMargin, TopMargin, Vmi, LinesPerInch, Hmi, Termination, PushPop, Resolution, StartRaster, EndRaster, ResetRaster, SkipRows}
 use Rattle.rules.specs.declared.Value.{Value}
-use Rattle.rules.specs.declared.Spot.{Spot}
-use Rattle.rules.specs.declared.Layout.{Layout}
-use Rattle.rules.specs.declared.Raster.{Raster}
 use Rattle.rules.specs.declared.Finding.{Finding}
 use Rattle.rules.specs.declared.Finding.TheVariants.{Nothing, EndsInside, CannotStand, NotCarried, NotAllowed, StackLimit, NotNow, DamagedRow}
 use Rattle.rules.specs.declared.Core.{Core}
@@ -22,13 +19,14 @@ use Rattle.rules.specs.Number.{whole_part}
 use Rattle.rules.specs.Effects.{started_at, barred, effect}
 use Rattle.rules.specs.Acts.{beside_after}
 use Rattle.do_change.specs.declared.Change.{Change}
-use Rattle.do_change.specs.declared.Change.TheVariants.{Pushed, Popped, Barred}
+use Rattle.std.specs.Prelude.{Ok, Err}
+use Rattle.do_change.specs.declared.Change.TheVariants.{Pushed, Popped}
 use Rattle.do_change.specs.Changed.{change_by, change_of, Goes}
 
 -- ---- a command's change makes the core, the row method and the finding that the rules have
 module _ (g : Measure) (k : Kind) (v : Value) (c : Core) where
   -- a command that is barred changes nothing
-  gated : (f : Finding) (d : Change) → barred g k v c ≡ f → (barred g k v c ≡ Nothing → Goes g k v d c) → Goes g k v (cond (is_clean f) d (Barred f)) c
+  gated : (f : Finding) (d : Change) → barred g k v c ≡ f → (barred g k v c ≡ Nothing → Goes g k v (Ok d) c) → Goes g k v (cond (is_clean f) (Ok d) (Err f)) c
   gated Nothing d e h = h e
   gated EndsInside d e h = record { bar = e; there = refl; aside = λ w m. refl; placed = tt }
   gated CannotStand d e h = record { bar = e; there = refl; aside = λ w m. refl; placed = tt }
@@ -46,11 +44,11 @@ never f e h =
     omega arith
 
 -- a push or a pop that nothing bars has its place on the stack
-stack_goes : (g : Measure) (v : Value) (c : Core) → c.depth ≤ stack_holds → barred g PushPop v c ≡ Nothing → Goes g PushPop v (cond (eqb (whole_part v) 0) Pushed Popped) c
+stack_goes : (g : Measure) (v : Value) (c : Core) → c.depth ≤ stack_holds → barred g PushPop v c ≡ Nothing → Goes g PushPop v (Ok (cond (eqb (whole_part v) 0) Pushed Popped)) c
 unfolding barred effect beside_after
 stack_goes g v c b h = go (eqb (whole_part v) 0) refl (eqb (whole_part v) 1) refl (ltb c.depth 20) refl (ltb 0 c.depth) refl
   where
-    go : (t : Bool) → eqb (whole_part v) 0 ≡ t → (u : Bool) → eqb (whole_part v) 1 ≡ u → (x : Bool) → ltb c.depth 20 ≡ x → (y : Bool) → ltb 0 c.depth ≡ y → Goes g PushPop v (cond (eqb (whole_part v) 0) Pushed Popped) c
+    go : (t : Bool) → eqb (whole_part v) 0 ≡ t → (u : Bool) → eqb (whole_part v) 1 ≡ u → (x : Bool) → ltb c.depth 20 ≡ x → (y : Bool) → ltb 0 c.depth ≡ y → Goes g PushPop v (Ok (cond (eqb (whole_part v) 0) Pushed Popped)) c
     go true e u f true i y j = rw e (record { bar = h; there = rw e; aside = λ w m. refl; placed = ltb-true c.depth 20 i })
     go true e u f false i y j = absurd (never StackLimit refl (rw (e, i) at h))
     go false e true f x i true j = rw e (record { bar = h; there = rw e; aside = λ w m. refl; placed = (ltb-true 0 c.depth j, b) })
@@ -79,28 +77,3 @@ change_goes g StartRaster v c b = gated g StartRaster v c _ _ refl (λ h. record
 change_goes g EndRaster v c b = record { bar = refl; there = refl; aside = λ w m. refl; placed = tt }
 change_goes g ResetRaster v c b = record { bar = refl; there = refl; aside = λ w m. refl; placed = tt }
 change_goes g SkipRows v c b = gated g SkipRows v c _ _ refl (λ h. record { bar = h; there = refl; aside = λ w m. refl; placed = tt })
-
--- ---- &f#S
-module _ (v : Value) (deep n : ℕ) (e : n ≡ whole_part v) (g : Measure) (p : Spot) (l : Layout) (q : Raster) where
-  -- 0: push, or full
-  pub push : n ≡ 0 → deep < 20 → Pushed ≡ change_of g PushPop v p l q deep
-  unfolding change_of change_by barred
-  push i b = rw (← e, i, lt-ltb deep 20 b)
-
-  pub push_full : n ≡ 0 → 20 ≤ deep → Barred StackLimit ≡ change_of g PushPop v p l q deep
-  unfolding change_of barred
-  push_full i b = rw (← e, i, le-ltb deep 20 b)
-
-  -- 1: pop, or empty
-  pub pop : n ≡ 1 → 0 < deep → Popped ≡ change_of g PushPop v p l q deep
-  unfolding change_of change_by barred
-  pop i b = rw (← e, i, lt-ltb 0 deep b)
-
-  pub pop_empty : n ≡ 1 → deep ≤ 0 → Barred StackLimit ≡ change_of g PushPop v p l q deep
-  unfolding change_of barred
-  pop_empty i b = rw (← e, i, le-ltb 0 deep b)
-
-  -- neither
-  pub neither : (n ≡ 0 → ⊥) → (n ≡ 1 → ⊥) → Barred NotAllowed ≡ change_of g PushPop v p l q deep
-  unfolding change_of barred
-  neither i b = rw (← e, ne_eqb n 0 i, ne_eqb n 1 b)

@@ -1,5 +1,5 @@
 -- What a command changes, apart from the rest of the core.
-use Rattle.std.specs.Prelude.{◌≡◌, false, cond, [], ℕ, ◌≤◌, ◌<◌, eqb}
+use Rattle.std.specs.Prelude.{◌≡◌, false, cond, [], ℕ, ◌≤◌, ◌<◌, eqb, Result, Ok, Err}
 use Prim.{Unit}
 use Rattle.rules.specs.declared.Measure.{Measure}
 use Rattle.rules.specs.declared.Kind.{Kind}
@@ -19,7 +19,7 @@ use Rattle.rules.specs.States.{with_at, with_layout, with_raster, with_seed, zer
 use Rattle.rules.specs.Effects.{pushed, popped, barred, effect}
 use Rattle.rules.specs.Acts.{order, beside_after}
 use Rattle.do_change.specs.declared.Change.{Change}
-use Rattle.do_change.specs.declared.Change.TheVariants.{To, Laid, Drawn, Fresh, Reset, Pushed, Popped, Barred}
+use Rattle.do_change.specs.declared.Change.TheVariants.{To, Laid, Drawn, Fresh, Reset, Pushed, Popped}
 
 -- a core of this cursor, layout, raster state and depth, which are all that a command with a value looks at but for a pop
 abbrev pub bare : Spot → Layout → Raster → ℕ → Core
@@ -47,60 +47,59 @@ change_by EndRaster v c = Drawn c.raster
 change_by ResetRaster v c = Reset c.raster
 change_by SkipRows v c = To c.at
 
--- what a command changes where the cursor is at p, the layout is l, the raster state is q and n places are on the stack; a command that is barred
--- changes nothing
-unfoldable pub change_of : Measure → Kind → Value → Spot → Layout → Raster → ℕ → Change
+-- what a command changes where the cursor is at p, the layout is l, the raster state is q and n places are on the stack, or the finding that bars it
+unfoldable pub change_of : Measure → Kind → Value → Spot → Layout → Raster → ℕ → Result Change Finding
 change_of g k v p l q n =
     let c = bare p l q n in
     let f = barred g k v c in
-    cond (is_clean f) (change_by k v (effect g k v c)) (Barred f)
+    cond (is_clean f) (Ok (change_by k v (effect g k v c))) (Err f)
 
--- the core with a change made to it
-abbrev pub made : Change → Core → Core
-made (To p) c = with_at p c
-made (Laid p l) c = with_layout l (with_at p c)
-made (Drawn r) c = with_raster r c
-made (Fresh r) c = with_seed zero_seed (with_raster r c)
-made (Reset r) c = with_seed zero_seed (with_raster r c)
-made Pushed c = pushed c
-made Popped c = popped c
-made (Barred f) c = c
+-- the core with a change made to it; a command that is barred changes nothing
+abbrev pub made : Result Change Finding → Core → Core
+made (Ok (To p)) c = with_at p c
+made (Ok (Laid p l)) c = with_layout l (with_at p c)
+made (Ok (Drawn r)) c = with_raster r c
+made (Ok (Fresh r)) c = with_seed zero_seed (with_raster r c)
+made (Ok (Reset r)) c = with_seed zero_seed (with_raster r c)
+made (Ok Pushed) c = pushed c
+made (Ok Popped) c = popped c
+made (Err f) c = c
 
 -- the row method behind it
-abbrev pub method_by : Change → Beside → Beside
-method_by (To p) m = m
-method_by (Laid p l) m = m
-method_by (Drawn r) m = m
-method_by (Fresh r) m = m
-method_by (Reset r) m = beside_of 0
-method_by Pushed m = m
-method_by Popped m = m
-method_by (Barred f) m = m
+abbrev pub method_by : Result Change Finding → Beside → Beside
+method_by (Ok (To p)) m = m
+method_by (Ok (Laid p l)) m = m
+method_by (Ok (Drawn r)) m = m
+method_by (Ok (Fresh r)) m = m
+method_by (Ok (Reset r)) m = beside_of 0
+method_by (Ok Pushed) m = m
+method_by (Ok Popped) m = m
+method_by (Err f) m = m
 
 -- the finding that it tells
-abbrev pub found_by : Change → Finding
-found_by (To p) = Nothing
-found_by (Laid p l) = Nothing
-found_by (Drawn r) = Nothing
-found_by (Fresh r) = Nothing
-found_by (Reset r) = Nothing
-found_by Pushed = Nothing
-found_by Popped = Nothing
-found_by (Barred f) = f
+abbrev pub found_by : Result Change Finding → Finding
+found_by (Ok (To p)) = Nothing
+found_by (Ok (Laid p l)) = Nothing
+found_by (Ok (Drawn r)) = Nothing
+found_by (Ok (Fresh r)) = Nothing
+found_by (Ok (Reset r)) = Nothing
+found_by (Ok Pushed) = Nothing
+found_by (Ok Popped) = Nothing
+found_by (Err f) = f
 
 -- the stack has the place that it writes
-abbrev pub Placed : Change → ℕ → Type 0
-Placed (To p) n = Unit {0}
-Placed (Laid p l) n = Unit {0}
-Placed (Drawn r) n = Unit {0}
-Placed (Fresh r) n = Unit {0}
-Placed (Reset r) n = Unit {0}
-Placed Pushed n = n < stack_holds
-Placed Popped n = (0 < n) × (n ≤ stack_holds)
-Placed (Barred f) n = Unit {0}
+abbrev pub Placed : Result Change Finding → ℕ → Type 0
+Placed (Ok (To p)) n = Unit {0}
+Placed (Ok (Laid p l)) n = Unit {0}
+Placed (Ok (Drawn r)) n = Unit {0}
+Placed (Ok (Fresh r)) n = Unit {0}
+Placed (Ok (Reset r)) n = Unit {0}
+Placed (Ok Pushed) n = n < stack_holds
+Placed (Ok Popped) n = (0 < n) × (n ≤ stack_holds)
+Placed (Err f) n = Unit {0}
 
--- the command k with the value v makes the change d to the core c
-pub record Goes (g : Measure) (k : Kind) (v : Value) (d : Change) (c : Core) : Type 0 where
+-- the command k with the value v makes the change d to the core c, or is barred by the finding d
+pub record Goes (g : Measure) (k : Kind) (v : Value) (d : Result Change Finding) (c : Core) : Type 0 where
   -- what bars it is what is told
   pub bar : barred g k v c ≡ found_by d
   -- the core behind it, which is as it was where it is barred

@@ -23,25 +23,17 @@ pub enum Change {
     Reset(Raster), // the same, and the row method is 0
     Pushed, // the cursor is put on the stack
     Popped, // and taken off it
-    Barred(Finding), // nothing
 }
 
 // &f#S: 0 push, 1 pop, else 4; 5 where the stack is full or empty.
-pub fn push_pop(v: Value, depth: usize) -> Change
+#[tactic(auto, unfolding(crate::specs::Changed::change_of, crate::specs::Changed::change_by, rules::specs::Effects::barred))]
+pub fn push_pop(v: Value, depth: usize) -> Result<Change, Finding>
     ensures { (g : Measure) (p : Spot) (l : Layout) (q : Raster) → result ≡ change_of g PushPop v p l q depth }
 {
-    let n = whole_part(v);
-    if n == 0 {
-        if depth < 20 {
-            return Change::Pushed;
-        }
-        return Change::Barred(Finding::StackLimit);
+    match whole_part(v) {
+        0 if depth < 20 => Ok(Change::Pushed),
+        1 if 0 < depth => Ok(Change::Popped),
+        0 | 1 => Err(Finding::StackLimit),
+        _ => Err(Finding::NotAllowed),
     }
-    if n == 1 {
-        if 0 < depth {
-            return Change::Popped;
-        }
-        return Change::Barred(Finding::StackLimit);
-    }
-    Change::Barred(Finding::NotAllowed)
 }

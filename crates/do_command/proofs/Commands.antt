@@ -6,6 +6,7 @@ use mathlib.Core.List.{List}
 use Prim.Native.Nat.{ℕ, ◌+◌, ◌-◌, ◌≤◌, ◌<◌}
 use native.Mathlib.Omega.{arith}
 use borrow.Author.Tests.{lt-leb, le-leb}
+use Rattle.std.specs.Prelude.{Result, Ok, Err}
 use Rattle.rules.specs.declared.Measure.{Measure}
 use Rattle.rules.specs.declared.Value.{Value}
 use Rattle.rules.specs.declared.Kind.{Kind}
@@ -17,7 +18,7 @@ use Rattle.rules.specs.declared.Raster.{Raster}
 use Rattle.rules.specs.declared.Core.{Core}
 use Rattle.rules.specs.declared.Beside.{Beside}
 use Rattle.rules.specs.Findings.{is_clean}
-use Rattle.rules.specs.States.{beside_of, zero_seed}
+use Rattle.rules.specs.States.{beside_of}
 use Rattle.rules.specs.Number.{whole_part}
 use Rattle.rules.specs.Commands.{whole, use_of, used_value, is_negative}
 use Rattle.rules.specs.Effects.{effect, barred, pushed, popped}
@@ -28,7 +29,7 @@ use Rattle.rules.specs.declared.Layout.{Layout}
 use Rattle.do_text.specs.declared.Typed.{Typed}
 use Rattle.do_text.specs.Cursor.{TypedAll}
 use Rattle.do_change.specs.declared.Change.{Change}
-use Rattle.do_change.specs.declared.Change.TheVariants.{To, Laid, Drawn, Fresh, Barred}
+use Rattle.do_change.specs.declared.Change.TheVariants.{To, Laid, Drawn, Fresh}
 use Rattle.do_change.specs.declared.Change.TheVariants as change
 use Rattle.do_change.specs.Changed.{bare, change_of, made, method_by, found_by, Placed, Goes}
 use Rattle.do_change.proofs.Changing.{change_goes}
@@ -66,14 +67,14 @@ module _ (g : Measure) (p : Pen) (m : Beside) where
   negative_deed k v r t e f h b s = nothing g p m (λ (c : Core). mean_command g (Valued k v) s c m) NotAllowed r (λ c. rw (← e, f)) h b
 
   -- a command with a value, which makes its change
-  pub valued_deed : (k : Kind) (v u : Value) (d : Change) (b : List ℕ) (r : Deed) (b' : List ℕ) (t : Bool) → t ≡ is_negative (use_of k) v → t ≡ false → u ≡ used_value (use_of k) v → p.depth ≤ 20 → d ≡ change_of g k u p.at p.layout p.raster p.depth → MadeBy d p m b r b'
+  pub valued_deed : (k : Kind) (v u : Value) (x d : Result Change Finding) (b : List ℕ) (r : Deed) (b' : List ℕ) (t : Bool) → t ≡ is_negative (use_of k) v → t ≡ false → u ≡ used_value (use_of k) v → p.depth ≤ 20 → x ≡ change_of g k u p.at p.layout p.raster p.depth → x ≡ d → MadeBy d p m b r b'
       → (s : List ℕ) → DeedFor g (λ (c : Core). mean_command g (Valued k v) s c m) p b r b'
-  valued_deed k v u d b r b' t o e x n h y s page = record {
+  valued_deed k v u x d b r b' t o e w n h i y s page = record {
     acted = λ l.
         let c = core_of p l b in
-        let z : Goes g k u d c = rw h (change_goes g k u c n) in
+        let z : Goes g k u d c = rw (sym i ∙ h) (change_goes g k u c n) in
         let a : made d c ≡ cond (is_clean (barred g k u c)) (effect g k u c) c = rw z.bar (sym z.there) in
-        rw (y.whole l) (valued_done g k v u c (made d c) m (method_by d m) (found_by d) t o e x (sym z.bar) a (λ w. sym (z.aside w m)) s page);
+        rw (y.whole l) (valued_done g k v u c (made d c) m (method_by d m) (found_by d) t o e w (sym z.bar) a (λ v. sym (z.aside v m)) s page);
     placed = y.placed;
   }
 
@@ -102,31 +103,16 @@ module _ (v : Value) (p : Pen) (m : Beside) (t : Bool) (o : t ≡ is_negative wh
   method_deed n r e f k h g s b page = rw h (record { acted = λ l. method_done v (core_of p l b) m t o n e f k g s page; placed = tt })
 
 -- the stack has the place that a change writes
-pub change_placed : (g : Measure) (k : Kind) (u : Value) (at : Spot) (l : Layout) (q : Raster) (n : ℕ) (d : Change) → n ≤ 20 → d ≡ change_of g k u at l q n → Placed d n
-change_placed g k u at l q n d b h = rw h (change_goes g k u (bare at l q n) b).placed
+pub change_placed : (g : Measure) (k : Kind) (u : Value) (at : Spot) (l : Layout) (q : Raster) (n : ℕ) (x d : Result Change Finding) → n ≤ 20 → x ≡ change_of g k u at l q n → x ≡ d → Placed d n
+change_placed g k u at l q n x d b h i = rw (sym i ∙ h) (change_goes g k u (bare at l q n) b).placed
 
 -- ---- a change made
 module _ (p : Pen) (m : Beside) (d : Change) where
-  pub made_to : (at : Spot) (b : List ℕ) (r : Deed) → d ≡ To at → r ≡ deed_of (pen_with at p.layout p.raster p.used p.depth) m Nothing false Kept → MadeBy d p m b r b
-  made_to at b r e h = rw (e, h) (record { whole = λ l. refl; placed = tt })
-
-  pub made_laid : (at : Spot) (n : Layout) (b : List ℕ) (r : Deed) → d ≡ Laid at n → r ≡ deed_of (pen_with at n p.raster p.used p.depth) m Nothing false Kept → MadeBy d p m b r b
-  made_laid at n b r e h = rw (e, h) (record { whole = λ l. refl; placed = tt })
-
-  pub made_drawn : (q : Raster) (b : List ℕ) (r : Deed) → d ≡ Drawn q → r ≡ deed_of (pen_with p.at p.layout q p.used p.depth) m Nothing false Kept → MadeBy d p m b r b
-  made_drawn q b r e h = rw (e, h) (record { whole = λ l. refl; placed = tt })
-
-  pub made_fresh : (q : Raster) (b : List ℕ) (r : Deed) → d ≡ Fresh q → r ≡ deed_of (pen_with p.at p.layout q p.used p.depth) m Nothing false Kept → MadeBy d p m b r zero_seed
-  made_fresh q b r e h = rw (e, h) (record { whole = λ l. refl; placed = tt })
-
-  pub made_reset : (q : Raster) (b : List ℕ) (r : Deed) → d ≡ change.Reset q → r ≡ deed_of (pen_with p.at p.layout q p.used p.depth) (beside_of 0) Nothing false Kept → MadeBy d p m b r zero_seed
-  made_reset q b r e h = rw (e, h) (record { whole = λ l. refl; placed = tt })
-
-  pub made_pushed : (b : List ℕ) (r : Deed) → d ≡ change.Pushed → Placed d p.depth → r ≡ deed_of (pen_with p.at p.layout p.raster p.used (p.depth + 1)) m Nothing false Pushed → MadeBy d p m b r b
+  pub made_pushed : (b : List ℕ) (r : Deed) → d ≡ change.Pushed → Placed (Ok d) p.depth → r ≡ deed_of (pen_with p.at p.layout p.raster p.used (p.depth + 1)) m Nothing false Pushed → MadeBy (Ok d) p m b r b
   unfolding pushed
   made_pushed b r e k h = let z : p.depth < 20 = rw e at k in rw (e, h) (record { whole = λ l. refl; placed = (z, refl, refl) })
 
-  pub made_popped : (b : List ℕ) (r : Deed) → d ≡ change.Popped → Placed d p.depth → r ≡ deed_of (pen_with p.at p.layout p.raster p.used (p.depth - 1)) m Nothing false Popped → MadeBy d p m b r b
+  pub made_popped : (b : List ℕ) (r : Deed) → d ≡ change.Popped → Placed (Ok d) p.depth → r ≡ deed_of (pen_with p.at p.layout p.raster p.used (p.depth - 1)) m Nothing false Popped → MadeBy (Ok d) p m b r b
   unfolding popped
   made_popped b r e k h =
       let z : (0 < p.depth) × (p.depth ≤ 20) = rw e at k in
@@ -134,13 +120,6 @@ module _ (p : Pen) (m : Beside) (d : Change) where
       let j = z.1 in
       rw (e, h) (record { whole = λ l. refl; placed = (omega arith, refl, refl, refl) })
 
-  pub made_barred : (f : Finding) (b : List ℕ) (r : Deed) → d ≡ Barred f → r ≡ deed_of p m f false Kept → MadeBy d p m b r b
-  made_barred f b r e h = rw (e, h) (record { whole = λ l. refl; placed = tt })
-
--- the depth before a push
-pub push_fits : (d : Change) (n : ℕ) → d ≡ change.Pushed → Placed d n → n < 20
-push_fits d n e k = rw e at k
-
--- the depth before a pop
-pub pop_fits : (d : Change) (n : ℕ) → d ≡ change.Popped → Placed d n → 0 < n
-pop_fits d n e k = let z : (0 < n) × (n ≤ 20) = rw e at k in z.0
+-- a command that is barred
+pub made_barred : (p : Pen) (m : Beside) (f : Finding) (b : List ℕ) (r : Deed) → r ≡ deed_of p m f false Kept → MadeBy (Err f) p m b r b
+made_barred p m f b r h = rw h (record { whole = λ l. refl; placed = tt })

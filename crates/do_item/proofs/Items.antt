@@ -1,5 +1,4 @@
 -- What an item does, from what its bytes or its command do. Assumes nothing.
-use Prim.{tt}
 use mathlib.Core.Path.{◌≡◌, refl}
 use mathlib.Core.Bool.{false}
 use mathlib.Core.List.{List}
@@ -14,25 +13,12 @@ use Rattle.rules.specs.Acts.{mean_command, mean}
 use Rattle.read_item.specs.declared.Item.{Item}
 use Rattle.read_item.specs.declared.Item.TheVariants as found
 use Rattle.read_item.specs.Items.{item_in}
-use Rattle.read_item.specs.contracts.Item.{the_type}
-use Rattle.read_item.proofs.Items.{other_items}
-use denote.Enum.Declared.{tag_of}
-use types.Run.{OneOf, miss}
-use Rattle.do_short.specs.Meant.{is_command}
 use Rattle.rules.specs.declared.Command.{Command}
 use Rattle.state_pen.specs.declared.Pen.{Pen}
 use Rattle.do_deed.specs.declared.Deed.{Deed}
 use Rattle.do_deed.specs.declared.Stacking.TheVariants.{Kept}
 use Rattle.do_deed.specs.Deeds.{deed_of, DeedOn}
 use Rattle.do_deed.proofs.Penned.{nothing}
-
--- what went the other way is no command
-pub no_command : (i : Item) → OneOf other_items (tag_of the_type i) → is_command i ≡ false
-no_command (found.Text b) h = refl
-no_command (found.Code b) h = refl
-no_command (found.Two b) h = refl
-no_command (found.Command k from to) h = absurd (miss other_items 3 tt h)
-no_command (found.Broken f) h = refl
 
 module _ (g : Measure) (p : Pen) (m : Beside) where
   -- a command that a `match` has told

@@ -43,10 +43,6 @@ use Rattle.do_deed.specs.Deeds.{deed_of, DeedOn}
 use Rattle.do_deed.proofs.Acts.{one_act}
 use Rattle.do_deed.proofs.Penned.{nothing, pen_with}
 
--- the first bytes of a row painted, with so many dots to a bit
-pub painting_of : (w n : ℕ) (row page after : List ℕ) (dots d from line : ℕ) → dots ≡ d → n ≡ w → after ≡ painted w (take n row) dots from line page → after ≡ painted w (take w row) d from line page
-painting_of w n row page after dots d from line x y h = rw (← x) (rw y at h)
-
 -- a list of zeros
 zeros : (l : List ℕ) → all_zero l ≡ true → l ≡ replicate (length l) 0
 unfolding all_zero
@@ -59,7 +55,7 @@ unfolding started_at
 seed_now_lem w c h = choice (λ (d : Core). all_zero (drop w d.seed) ≡ true) c.raster.started h (drop_zeros w 600)
 
 -- a seed row that is zeroed or kept is as long as it was
-pub kept_long : (t : Bool) (l s : List ℕ) → length l ≡ 600 → s ≡ cond t l zero_seed → length s ≡ 600
+kept_long : (t : Bool) (l s : List ℕ) → length l ≡ 600 → s ≡ cond t l zero_seed → length s ≡ 600
 kept_long t l s h e = rw e (choice (λ (k : List ℕ). length k ≡ 600) t h (length-replicate {A = ℕ} 600 0))
 
 module _ (g : Measure) (v : Value) (p : List ℕ) (c : Core) (m : Beside) where

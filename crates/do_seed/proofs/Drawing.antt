@@ -2,13 +2,11 @@
 use mathlib.Core.Path.{◌≡◌, refl}
 use mathlib.Core.Bool.{Bool, true, false, cond}
 use mathlib.Core.List.{List}
-use Prim.Native.Nat.{ℕ, ◌+◌, ◌/◌}
+use Prim.Native.Nat.{ℕ}
 use Rattle.common.specs.Lists.{pad}
 use Rattle.rules.specs.declared.Measure.{Measure}
-use Rattle.rules.specs.declared.Spot.{Spot}
-use Rattle.rules.specs.declared.Raster.{Raster}
 use Rattle.rules.specs.declared.Core.{Core}
-use Rattle.rules.specs.Measure.{inch, row_holds, into_width, into_height, spot}
+use Rattle.rules.specs.Measure.{row_holds}
 use Rattle.rules.specs.States.{with_started, with_margin, with_at, with_raster, with_used, with_seed, zero_seed}
 use Rattle.rules.specs.Effects.{started_at}
 use Rattle.rules.specs.Acts.{begun, drawn}
@@ -18,10 +16,6 @@ use Rattle.do_seed.specs.Cursor.{raster_begun, row_spot, moved_on}
 pub drawn_parts : (g : Measure) (row : List ℕ) (c : Core) → drawn g row c ≡ with_seed (pad row_holds row) (moved_on g (begun c))
 unfolding drawn
 drawn_parts g row c = refl
-
--- the cursor behind a row, step by step
-pub row_spot_lem : (g : Measure) (p : Spot) (r : Raster) (x n y : ℕ) → x ≡ into_width g r.margin → n ≡ inch / r.resolution → y ≡ into_height g (p.y + n) → spot x y ≡ row_spot g p r
-row_spot_lem g p r x n y e f h = rw (e, h, f)
 
 -- what a row does to the core, from its parts: the raster state that it is drawn in and the cursor behind it
 pub row_parts : (g : Measure) (c : Core) (row : List ℕ) → with_seed row (moved_on g (begun c)) ≡ with_seed row (with_used true (with_raster (raster_begun c.raster) (with_at (row_spot g c.at (raster_begun c.raster)) c)))

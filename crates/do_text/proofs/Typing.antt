@@ -1,30 +1,20 @@
 -- Text, byte by byte. Assumes nothing.
 use mathlib.Core.Path.{◌≡◌, refl, sym, ap, ◌∙◌}
-use mathlib.Core.Bool.{Bool, cond, not, ◌||◌}
+use mathlib.Core.Bool.{Bool, not, ◌||◌}
 use mathlib.Core.List.{List}
-use Prim.Native.Nat.{ℕ, ◌+◌, ◌≤◌, ◌<◌, min}
-use lib.Dec.{eqb, leb}
+use Prim.Native.Nat.{ℕ, ◌+◌, ◌≤◌, ◌<◌}
+use lib.Dec.{eqb}
 use lib.ListN.{length, drop, get_or, drop_of_length-le}
 use Rattle.common.proofs.Places.{cut}
 use Rattle.rules.specs.declared.Measure.{Measure}
 use Rattle.rules.specs.declared.Spot.{Spot}
 use Rattle.rules.specs.declared.Layout.{Layout}
 use Rattle.rules.specs.declared.Core.{Core}
-use Rattle.rules.specs.Measure.{LW, into_width, spot}
 use Rattle.rules.specs.States.{with_at, with_layout, with_used, fresh_core}
 use Rattle.rules.specs.Codes.{typed, typed_all}
 use Rattle.state_pen.specs.declared.Pen.{Pen}
 use Rattle.state_pen.specs.Pens.{core_of}
-use Rattle.do_text.specs.Cursor.{forward_spot, typed_spot, typed_pen, TypedAll, OneTypedAll}
-
--- a move forward, step by step: where it stops, how far it goes, and where that is in the page
-pub forward_spot_lem : (g : Measure) (n : ℕ) (p : Spot) (l : Layout) (stop m x : ℕ) → stop ≡ cond (leb p.x l.right) l.right (LW g) → m ≡ min n stop → x ≡ into_width g m → spot x p.y ≡ forward_spot g n p l
-forward_spot_lem g n p l stop m x e f h = rw (h, f, e)
-
--- a pen whose cursor and flag were set as by a byte
-pub pen_typed : (g : Measure) (b : ℕ) (n : Pen) (at : Spot) (u : Bool) → at ≡ typed_spot g n.at n.layout → u ≡ (n.used || not (eqb b 32))
-    → record { at = at; layout = n.layout; raster = n.raster; used = u; depth = n.depth } ≡ typed_pen g n b
-pen_typed g b n at u e f = rw (e, f)
+use Rattle.do_text.specs.Cursor.{typed_spot, typed_pen, TypedAll, OneTypedAll}
 
 -- the core of a pen behind a byte is what the rules type
 pub typed_core : (g : Measure) (b : ℕ) (n n' : Pen) (l : List Spot) (seed : List ℕ) → n' ≡ typed_pen g n b → core_of n' l seed ≡ typed g b (core_of n l seed)

@@ -1,11 +1,12 @@
 -- What the functions for C answer: the rules' outcome, as numbers and bytes.
-use Rattle.std.specs.Prelude.{◌≡◌, true, cond, not, List, ℕ, ltb, length}
+use Rattle.std.specs.Prelude.{◌≡◌, true, cond, not, List, ℕ, Result, Ok, Err, ltb, length}
 use Rattle.std.proofs.lemmas.List.Edits.{sets}
 use Rattle.common.specs.Choice.{flagged}
+use Rattle.rules.specs.declared.Refusal.{Refusal}
 use Rattle.rules.specs.declared.Refusal.TheVariants.{PageMeasure, UnsoundState}
-use Rattle.rules.specs.declared.Ran.{Ran}
-use Rattle.rules.specs.declared.Verdict.{Verdict}
-use Rattle.rules.specs.declared.Verdict.TheVariants.{Carried, Refused}
+use Rattle.rules.specs.Given.{Ran}
+use Rattle.rules.specs.Given.{Verdict}
+use Rattle.rules.specs.Given.{Carried, Refused}
 use Rattle.rules.specs.Measure.{allowed, measure_of}
 use Rattle.rules.specs.Findings.{finding_number, refusal_number, verdict_number}
 use Rattle.rules.specs.States.{afresh}
@@ -43,6 +44,11 @@ pub record Answered (W H : ℕ) (page stream state : List ℕ) (allowance place 
   pub finding_is : finding ≡ finding_number (answer W H page stream (state_at state) place allowance).ran.finding
   pub found_is : found ≡ (answer W H page stream (state_at state) place allowance).ran.found
   pub ended_is : ended ≡ flagged (answer W H page stream (state_at state) place allowance).ran.ended
+
+-- the length that a call tells, 0 where it is refused
+abbrev pub length_told : Result ℕ Refusal → ℕ
+length_told (Ok n) = n
+length_told (Err why) = 0
 
 -- a translation answered: the rules' own, and demand 3 of it
 pub record ToldPlain (W H : ℕ) (stream room : List ℕ) (n : ℕ) (room' : List ℕ) (long : ℕ) : Type 0 where

@@ -1,22 +1,24 @@
 -- A row's last dots, and its squares, made by bytes. Assumes nothing.
 use mathlib.Core.Path.{◌≡◌, refl, sym, ap, ◌∙◌}
-use mathlib.Core.Bool.{Bool, false, not}
-use mathlib.Core.List.{List}
+use mathlib.Core.Bool.{Bool, true}
+use mathlib.Core.List.{List, [], ◌∷◌, ◌++◌}
 use mathlib.Core.Logic.{⊎_elim}
-use Prim.Native.Nat.{ℕ, ◌+◌, ◌-◌, ◌*◌, ◌/◌, ◌%◌, ◌≤◌, ◌<◌}
+use Prim.Native.Nat.{ℕ, zero, suc, ◌+◌, ◌-◌, ◌*◌, ◌/◌, ◌%◌, ◌≤◌, ◌<◌}
 use native.Mathlib.Omega.{arith}
-use native.Mathlib.Nat.{mul_assoc, mul-add-div_right, div-lt_iff_lt-mul}
+use native.Mathlib.Nat.{mul_assoc, mul_comm, mul-add, mul-one, mul-add-div_right, div-lt_iff_lt-mul}
 use lib.Bits.{bit_or, or_add_and, and_le_l, and_le_r}
 use lib.Dec.{T, eqb, eqb→eq}
-use lib.ListN.{length, get_or, set, length-set, get_or-eq_default}
-use lib.Seq.{get_or-set_same, get_or-set_other, ext_get_or}
-use borrow.Author.Count.{below_more}
-use borrow.Author.Tests.{eqb-true, not-false}
+use lib.ListN.{length, get_or, set, take, drop, length-take, get_or-append, get_or-eq_default}
+use lib.Seq.{take_all, take-take, length-take-le, get_or-take, get_or-drop, ext_get_or}
+use borrow.Author.Tests.{eqb-true}
+use Rattle.std.specs.List.{fold}
+use Rattle.std.proofs.lemmas.List.{get_or-append_right}
 use Rattle.common.specs.Bits.{bit, dot, byte_of}
 use Rattle.common.proofs.Bits.{dot_at, dot_lt, byte_of_cong, bit-byte_of}
 use Rattle.common.proofs.Choices.{le_or_lt}
+use Rattle.common.proofs.Parts.{put_back, back_length}
 use Rattle.common.proofs.Tests.{all_below, below}
-use Rattle.dot_ink.specs.Ink.{Blank, Used, spread_of, square_at, Squared, OneSquared}
+use Rattle.dot_ink.specs.Ink.{Blank, Used, spread_of, Spread, square_at, Squared, OneSquared}
 
 -- ---- the row's last nonzero byte
 
@@ -28,34 +30,62 @@ used_all row = record { inside = omega arith; rest = λ i h. get_or-eq_default r
 or_zeros : (a b : ℕ) → bit_or a b ≡ 0 → (a ≡ 0) × (b ≡ 0)
 or_zeros a b h = (omega (arith, or_add_and a b, and_le_r a b), omega (arith, or_add_and a b, and_le_l a b))
 
--- k of w bytes are or-ed: if what came of it is zero, each of them is
-pub record Oring (w : ℕ) (row : List ℕ) (at all k : ℕ) : Type 0 where
-  pub room : at + w ≤ length row
-  pub some : k ≤ w
-  pub zeros : all ≡ 0 → (i : ℕ) → at ≤ i → i < at + k → get_or row i 0 ≡ 0
+-- a zero before zeros
+zeros_cons : (b : ℕ) (s : List ℕ) → b ≡ 0 → ((i : ℕ) → get_or s i 0 ≡ 0) → (i : ℕ) → get_or (b ∷ s) i 0 ≡ 0
+zeros_cons b s e h zero = e
+zeros_cons b s e h (suc i) = h i
 
-pub oring_none : (w : ℕ) (row : List ℕ) (at : ℕ) → at + w ≤ length row → Oring w row at 0 0
-oring_none w row at h = record { room = h; some = omega arith; zeros = λ z i l k. absurd (omega arith) }
+-- bytes or-ed to zero are all zero
+ored_zeros : (a : ℕ) (s : List ℕ) → fold bit_or a s ≡ 0 → (a ≡ 0) × ((i : ℕ) → get_or s i 0 ≡ 0)
+ored_zeros a [] h = (h, λ i. get_or-eq_default {A = ℕ} [] 0 {n = i} (omega arith))
+ored_zeros a (b ∷ s) h =
+    let r = ored_zeros (bit_or a b) s h in
+    let o = or_zeros a b r.0 in
+    (o.0, zeros_cons b s o.1 r.1)
 
-pub oring_more : (w : ℕ) (row : List ℕ) (at all k : ℕ) → Oring w row at all k → k < w → Oring w row at (bit_or all (get_or row (at + k) 0)) (k + 1)
-oring_more w row at all k v h =
+-- the test of what they are or-ed to
+pub blank_ored : (n : ℕ) (s : List ℕ) (f : ℕ) → f ≡ fold bit_or 0 s → Blank n s 0 (eqb f 0)
+blank_ored n s f e = record { zeros = λ t i l q. (ored_zeros 0 s (sym e ∙ eqb-true f 0 t)).1 i }
+
+-- the front of a row, behind which it has no ink
+pub record Front (row front : List ℕ) : Type 0 where
+  pub is : front ≡ take (length front) row
+  pub used : Used row (length front)
+
+-- the whole row
+pub front_whole : (row : List ℕ) → Front row row
+front_whole row = record { is = sym (take_all (length row) row (omega arith)); used = used_all row }
+
+-- the last n bytes are zero: they are not used
+pub front_less : (n : ℕ) (row left front block : List ℕ) (r : Bool) → Front row left → front ≡ take (length left - n) left → block ≡ drop (length left - n) left
+    → length front + n ≡ length left → Blank n block 0 r → r ≡ true → Front row front
+front_less n row left front block r v e b l z t =
+    let k : length left - n ≡ length front = omega arith in
+    let f : front ≡ take (length front) left = rw k at e in
+    let d : block ≡ drop (length front) left = rw k at b in
+    let c : length front ≤ length left = omega arith in
     record {
-      room = v.room;
-      some = omega arith;
-      zeros = λ z i l q.
-          let o = or_zeros all (get_or row (at + k) 0) z in
-          ⊎_elim (λ (p : at + k ≤ i). let d : i ≡ at + k = omega arith in rw d o.1) (v.zeros o.0 i l) (le_or_lt (at + k) i);
+      is = f ∙ ap (take (length front)) v.is ∙ take-take (length front) (length left) row c;
+      used =
+          record {
+            inside = omega (arith, v.used.inside);
+            rest = λ i h.
+                ⊎_elim (v.used.rest i)
+                (λ (q : i < length left).
+                let m : length front + (i - length front) ≡ i = omega arith in
+                let x : get_or left i 0 ≡ 0 = rw (← m, ← get_or-drop (length front) left (i - length front) 0, ← d) (z.zeros t (i - length front) (omega arith) (omega arith)) in
+                sym (ap (λ y. get_or y i 0) v.is ∙ get_or-take (length left) row i 0 q) ∙ x)
+                (le_or_lt (length left) i);
+          };
     }
 
-pub oring_end : (w : ℕ) (row : List ℕ) (at all k : ℕ) → Oring w row at all k → w ≤ k → Blank w row at (eqb all 0)
-oring_end w row at all k v h = record { zeros = λ t i l q. v.zeros (eqb-true all 0 t) i l (omega arith) }
-
--- the last w bytes are zero: they are not used
-pub used_less : (w : ℕ) (row : List ℕ) (e : ℕ) (r : Bool) → Used row e → w ≤ e → Blank w row (e - w) r → not r ≡ false → Used row (e - w)
-used_less w row e r v h b z =
+-- what is used of the used front of a row
+pub used_again : (row : List ℕ) (e r : ℕ) → Used row e → Used (take e row) r → Used row r
+used_again row e r u v =
+    let l = length-take e row in
     record {
-      inside = omega (arith, v.inside);
-      rest = λ i l. ⊎_elim (v.rest i) (λ (k : i < e). b.zeros (not-false r z) i l (omega arith)) (le_or_lt e i);
+      inside = omega (arith, l, v.inside);
+      rest = λ i h. ⊎_elim (u.rest i) (λ (q : i < e). sym (get_or-take e row i 0 q) ∙ v.rest i h) (le_or_lt e i);
     }
 
 -- ---- a byte of squares out of a byte of the row
@@ -94,50 +124,106 @@ pub record Making (row : List ℕ) (dots : ℕ) (before : List ℕ) (m : ℕ) (l
 pub making_starts : (row : List ℕ) (dots m : ℕ) (list : List ℕ) → m ≡ 0 → Making row dots list m list
 making_starts row dots m list e = record { same = refl; done = λ j l. absurd (omega arith); rest = λ j l. refl }
 
--- one more
-making_more : (row : List ℕ) (dots : ℕ) (before : List ℕ) (m : ℕ) (list : List ℕ) (byte phase k v : ℕ) → Making row dots before m list → m < length before
-    → m ≡ byte * dots + phase → phase < dots → k ≡ m + 1 → v ≡ spread_of dots (get_or row byte 0) phase → Making row dots before k (set list m v)
-making_more row dots before m list byte phase k v d h e p q g =
-    rw q
-    (record {
-      same = length-set list m _ ∙ d.same;
-      done =
-          below_more _ _ (λ j l. rw (get_or-set_other list m j _ 0 (λ q. omega arith)) (d.done j l))
-          (rw (get_or-set_same list m _ 0 (omega (arith, d.same))) (g ∙ square_spread row dots byte phase p ∙ ap (square_at row dots) (sym e)));
-      rest = λ j l. rw (get_or-set_other list m j _ 0 (λ q. omega arith)) (d.rest j (omega arith));
-    })
+-- what stands in a list when a part of it has come back
+module _ (list new : List ℕ) (a k : ℕ) (fits : a + k ≤ length list) (len : length new ≡ k) where
+  front_length : length (take a list) ≡ a
+  front_length = length-take-le a list (omega arith)
+
+  -- before the part
+  back_left : (j : ℕ) → j < a → get_or (put_back list a k new) j 0 ≡ get_or list j 0
+  back_left j h = get_or-append (take a list) (new ++ drop k (drop a list)) 0 j (omega (arith, front_length)) ∙ get_or-take a list j 0 h
+
+  -- in it
+  back_inside : (j : ℕ) → a ≤ j → j < a + k → get_or (put_back list a k new) j 0 ≡ get_or new (j - a) 0
+  back_inside j h l =
+      get_or-append_right (take a list) (new ++ drop k (drop a list)) a j 0 front_length h
+      ∙ get_or-append new (drop k (drop a list)) 0 (j - a) (omega (arith, len))
+
+  -- behind it
+  back_right : (j : ℕ) → a + k ≤ j → get_or (put_back list a k new) j 0 ≡ get_or list j 0
+  back_right j h =
+      let e : a + (k + ((j - a) - k)) ≡ j = omega arith in
+      get_or-append_right (take a list) (new ++ drop k (drop a list)) a j 0 front_length (omega arith)
+      ∙ get_or-append_right new (drop k (drop a list)) k (j - a) 0 len (omega arith)
+      ∙ get_or-drop k (drop a list) ((j - a) - k) 0
+      ∙ get_or-drop a list (k + ((j - a) - k)) 0
+      ∙ ap (λ m. get_or list m 0) e
+
+-- those of one byte more
+pub making_more : (row before list new : List ℕ) (dots i k : ℕ) → Making row dots before (dots * i) list → dots * i + dots ≤ length before → k ≡ dots
+    → Spread dots (get_or row i 0) new → Making row dots before (dots * (i + 1)) (put_back list (dots * i) k new)
+making_more row before list new dots i k d h e s =
+    let n : length new ≡ k = s.same ∙ sym e in
+    let f : dots * i + k ≤ length list = omega (arith, d.same) in
+    let m : dots * (i + 1) ≡ dots * i + dots = mul-add dots i 1 ∙ ap (λ z. dots * i + z) (mul-one dots) in
+    record {
+      same = back_length list new (dots * i) k f n ∙ d.same;
+      done = λ j l.
+          ⊎_elim
+          (λ (q : dots * i ≤ j).
+          let c : i * dots + (j - dots * i) ≡ j = omega (arith, mul_comm i dots) in
+          let p : j - dots * i < dots = omega (arith, m) in
+          back_inside list new (dots * i) k f n j q (omega (arith, m))
+          ∙ s.is (j - dots * i) p ∙ square_spread row dots i (j - dots * i) p ∙ ap (square_at row dots) c)
+          (λ (q : j < dots * i). back_left list new (dots * i) k f n j q ∙ d.done j q)
+          (le_or_lt (dots * i) j);
+      rest = λ j l. back_right list new (dots * i) k f n j (omega (arith, m)) ∙ d.rest j (omega (arith, m));
+    }
+
+-- two bytes written one by one
+two_set : (l : List ℕ) (x y : ℕ) → length l ≡ 2 → set (set l 0 x) 1 y ≡ x ∷ y ∷ []
+two_set [] x y h = absurd (omega arith)
+two_set (a ∷ []) x y h = absurd (omega arith)
+two_set (a ∷ b ∷ []) x y h = refl
+two_set (a ∷ b ∷ c ∷ l) x y h = absurd (omega arith)
+
+-- three
+three_set : (l : List ℕ) (x y z : ℕ) → length l ≡ 3 → set (set (set l 0 x) 1 y) 2 z ≡ x ∷ y ∷ z ∷ []
+three_set [] x y z h = absurd (omega arith)
+three_set (a ∷ []) x y z h = absurd (omega arith)
+three_set (a ∷ b ∷ []) x y z h = absurd (omega arith)
+three_set (a ∷ b ∷ c ∷ []) x y z h = refl
+three_set (a ∷ b ∷ c ∷ d ∷ l) x y z h = absurd (omega arith)
+
+-- four
+four_set : (l : List ℕ) (x y z w : ℕ) → length l ≡ 4 → set (set (set (set l 0 x) 1 y) 2 z) 3 w ≡ x ∷ y ∷ z ∷ w ∷ []
+four_set [] x y z w h = absurd (omega arith)
+four_set (a ∷ []) x y z w h = absurd (omega arith)
+four_set (a ∷ b ∷ []) x y z w h = absurd (omega arith)
+four_set (a ∷ b ∷ c ∷ []) x y z w h = absurd (omega arith)
+four_set (a ∷ b ∷ c ∷ d ∷ []) x y z w h = refl
+four_set (a ∷ b ∷ c ∷ d ∷ e ∷ l) x y z w h = absurd (omega arith)
 
 -- the two of a byte
-pub made_two : (row before : List ℕ) (i x y : ℕ) (list : List ℕ) → Making row 2 before (2 * i) list → 2 * i + 1 < length before → get_or row i 0 < 256
-    → x ≡ spread_of 2 (get_or row i 0 / 16) 1 → y ≡ spread_of 2 (get_or row i 0 % 16) 1 → Making row 2 before (2 * (i + 1)) (set (set list (2 * i) x) (2 * i + 1) y)
-made_two row before i x y list d h s f g =
-    making_more row 2 before (2 * i + 1) _ i 1 _ y
-    (making_more row 2 before (2 * i) list i 0 (2 * i + 1) x d (omega arith) (omega arith) (omega arith) refl (f ∙ same_by (λ b. spread_of 2 (b / 16) 1) (λ b. spread_of 2 b 0) (unfold spread_of in unfold byte_of in unfold bit in tt) _ s))
-    h (omega arith) (omega arith) (omega arith) (g ∙ same_by (λ b. spread_of 2 (b % 16) 1) (λ b. spread_of 2 b 1) (unfold spread_of in unfold byte_of in unfold bit in tt) _ s)
+pub spread_two : (l : List ℕ) (b x y : ℕ) → length l ≡ 2 → b < 256 → x ≡ spread_of 2 (b / 16) 1 → y ≡ spread_of 2 (b % 16) 1 → Spread 2 b (set (set l 0 x) 1 y)
+spread_two l b x y n s f g = rw (two_set l x y n) (record { same = refl; is = at })
+  where
+    at : (k : ℕ) → k < 2 → get_or (x ∷ y ∷ []) k 0 ≡ spread_of 2 b k
+    at zero h = f ∙ same_by (λ b. spread_of 2 (b / 16) 1) (λ b. spread_of 2 b 0) (unfold spread_of in unfold byte_of in unfold bit in tt) b s
+    at (suc zero) h = g ∙ same_by (λ b. spread_of 2 (b % 16) 1) (λ b. spread_of 2 b 1) (unfold spread_of in unfold byte_of in unfold bit in tt) b s
+    at (suc (suc k)) h = absurd (omega arith)
 
 -- the three of a byte
-pub made_three : (row before : List ℕ) (i x y z : ℕ) (list : List ℕ) → Making row 3 before (3 * i) list → 3 * i + 2 < length before
-    → x ≡ spread_of 3 (get_or row i 0) 0 → y ≡ spread_of 3 (get_or row i 0) 1 → z ≡ spread_of 3 (get_or row i 0) 2
-    → Making row 3 before (3 * (i + 1)) (set (set (set list (3 * i) x) (3 * i + 1) y) (3 * i + 2) z)
-made_three row before i x y z list d h f g k =
-    making_more row 3 before (3 * i + 2) _ i 2 _ z
-    (making_more row 3 before (3 * i + 1) _ i 1 (3 * i + 2) y
-    (making_more row 3 before (3 * i) list i 0 (3 * i + 1) x d (omega arith) (omega arith) (omega arith) refl f)
-    (omega arith) (omega arith) (omega arith) (omega arith) g)
-    h (omega arith) (omega arith) (omega arith) k
+pub spread_three : (l : List ℕ) (b x y z : ℕ) → length l ≡ 3 → x ≡ spread_of 3 b 0 → y ≡ spread_of 3 b 1 → z ≡ spread_of 3 b 2 → Spread 3 b (set (set (set l 0 x) 1 y) 2 z)
+spread_three l b x y z n f g k = rw (three_set l x y z n) (record { same = refl; is = at })
+  where
+    at : (j : ℕ) → j < 3 → get_or (x ∷ y ∷ z ∷ []) j 0 ≡ spread_of 3 b j
+    at zero h = f
+    at (suc zero) h = g
+    at (suc (suc zero)) h = k
+    at (suc (suc (suc j))) h = absurd (omega arith)
 
 -- the four of a byte
-pub made_four : (row before : List ℕ) (i x y z w : ℕ) (list : List ℕ) → Making row 4 before (4 * i) list → 4 * i + 3 < length before → get_or row i 0 < 256
-    → x ≡ spread_of 4 (get_or row i 0 / 64) 3 → y ≡ spread_of 4 (get_or row i 0 / 16 % 4) 3 → z ≡ spread_of 4 (get_or row i 0 / 4 % 4) 3 → w ≡ spread_of 4 (get_or row i 0 % 4) 3
-    → Making row 4 before (4 * (i + 1)) (set (set (set (set list (4 * i) x) (4 * i + 1) y) (4 * i + 2) z) (4 * i + 3) w)
-made_four row before i x y z w list d h s f g k o =
-    making_more row 4 before (4 * i + 3) _ i 3 _ w
-    (making_more row 4 before (4 * i + 2) _ i 2 (4 * i + 3) z
-    (making_more row 4 before (4 * i + 1) _ i 1 (4 * i + 2) y
-    (making_more row 4 before (4 * i) list i 0 (4 * i + 1) x d (omega arith) (omega arith) (omega arith) refl (f ∙ same_by (λ b. spread_of 4 (b / 64) 3) (λ b. spread_of 4 b 0) (unfold spread_of in unfold byte_of in unfold bit in tt) _ s))
-    (omega arith) (omega arith) (omega arith) (omega arith) (g ∙ same_by (λ b. spread_of 4 (b / 16 % 4) 3) (λ b. spread_of 4 b 1) (unfold spread_of in unfold byte_of in unfold bit in tt) _ s))
-    (omega arith) (omega arith) (omega arith) (omega arith) (k ∙ same_by (λ b. spread_of 4 (b / 4 % 4) 3) (λ b. spread_of 4 b 2) (unfold spread_of in unfold byte_of in unfold bit in tt) _ s))
-    h (omega arith) (omega arith) (omega arith) (o ∙ same_by (λ b. spread_of 4 (b % 4) 3) (λ b. spread_of 4 b 3) (unfold spread_of in unfold byte_of in unfold bit in tt) _ s)
+pub spread_four : (l : List ℕ) (b x y z w : ℕ) → length l ≡ 4 → b < 256 → x ≡ spread_of 4 (b / 64) 3 → y ≡ spread_of 4 (b / 16 % 4) 3 → z ≡ spread_of 4 (b / 4 % 4) 3
+    → w ≡ spread_of 4 (b % 4) 3 → Spread 4 b (set (set (set (set l 0 x) 1 y) 2 z) 3 w)
+spread_four l b x y z w n s f g k o = rw (four_set l x y z w n) (record { same = refl; is = at })
+  where
+    at : (j : ℕ) → j < 4 → get_or (x ∷ y ∷ z ∷ w ∷ []) j 0 ≡ spread_of 4 b j
+    at zero h = f ∙ same_by (λ b. spread_of 4 (b / 64) 3) (λ b. spread_of 4 b 0) (unfold spread_of in unfold byte_of in unfold bit in tt) b s
+    at (suc zero) h = g ∙ same_by (λ b. spread_of 4 (b / 16 % 4) 3) (λ b. spread_of 4 b 1) (unfold spread_of in unfold byte_of in unfold bit in tt) b s
+    at (suc (suc zero)) h = k ∙ same_by (λ b. spread_of 4 (b / 4 % 4) 3) (λ b. spread_of 4 b 2) (unfold spread_of in unfold byte_of in unfold bit in tt) b s
+    at (suc (suc (suc zero))) h = o ∙ same_by (λ b. spread_of 4 (b % 4) 3) (λ b. spread_of 4 b 3) (unfold spread_of in unfold byte_of in unfold bit in tt) b s
+    at (suc (suc (suc (suc j)))) h = absurd (omega arith)
 
 -- all are made
 pub making_ends : (row : List ℕ) (dots n i : ℕ) (before list : List ℕ) → Making row dots before (dots * i) list → n ≡ i → Squared row dots n before list

@@ -15,6 +15,11 @@ pub record Blank (w : ℕ) (row : List ℕ) (at : ℕ) (r : Bool) : Type 0 where
 unfoldable pub spread_of : ℕ → ℕ → ℕ → ℕ
 spread_of dots b phase = byte_of (λ i. bit b ((8 * phase + i) / dots))
 
+-- the bytes l are the ink of the byte b: each bit as so many dots
+pub record Spread (dots b : ℕ) (l : List ℕ) : Type 0 where
+  pub same : length l ≡ dots
+  pub is : (k : ℕ) → k < dots → get_or l k 0 ≡ spread_of dots b k
+
 -- byte j of a row with so many dots to a bit
 unfoldable pub square_at : List ℕ → ℕ → ℕ → ℕ
 square_at row dots j = byte_of (λ i. dot row ((8 * j + i) / dots))

@@ -27,10 +27,6 @@ pub record Laying (before list part : List ℕ) (j : ℕ) : Type 0 where
   pub same : length part ≡ length before
   pub is : take j part ++ ored (drop j part) (drop j list) ≡ ored before list
 
--- at first none is
-pub laying_starts : (before list : List ℕ) → Laying before list before 0
-laying_starts before list = record { same = refl; is = refl }
-
 -- one byte more is
 pub laying_again : (before list part : List ℕ) (j n : ℕ) → Laying before list part j → n ≡ min (length before) (length list) → j < n
     → Laying before list (set part j (bit_or (get_or part j 0) (get_or list j 0))) (j + 1)

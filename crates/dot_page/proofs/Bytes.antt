@@ -1,61 +1,62 @@
 -- Bytes whose ones are counted. Assumes nothing.
-use mathlib.Core.Path.{◌≡◌, refl}
+use mathlib.Core.Path.{◌≡◌, refl, sym, ◌∙◌}
 use mathlib.Core.List.{List, [], ◌∷◌, ◌++◌}
-use Prim.Native.Nat.{ℕ, zero, suc, ◌+◌, ◌-◌, ◌*◌, ◌^◌, ◌≤◌, ◌<◌}
+use Prim.Native.Nat.{ℕ, zero, suc, ◌+◌, ◌-◌, ◌*◌, ◌≤◌, ◌<◌}
 use native.Mathlib.Omega.{arith}
-use lib.Count.{ones, ones_in, ones-le}
-use lib.ListN.{length, get_or, take, drop, replicate, length-drop, take-append-drop, drop_of_length-le}
-use lib.Seq.{take_all}
+use native.Mathlib.Nat.{add_comm, zero-mul, suc-mul}
+use lib.Count.{ones, ones_in}
+use lib.ListN.{length, get_or, take, drop, replicate, length-drop, take-append-drop}
+use lib.Seq.{take_all, drop-drop}
+use Rattle.std.specs.List.{sum_by}
+use Rattle.std.specs.Simd.{first_chunks}
+use Rattle.std.proofs.lemmas.List.Recursion.{is_sum_by}
+use Rattle.std.proofs.lemmas.List.Sums.{sum_by-cons, sum_by_more}
 use Rattle.common.specs.Bits.{ones_all}
-use Rattle.common.proofs.Places.{cut}
 use Rattle.dot_page.specs.Zeros.{FirstZero}
 
--- the ones of a byte and of the bytes behind it
-pub ones_more : (s : List ℕ) (i : ℕ) → i < length s → ones_all (drop i s) ≡ ones (get_or s i 0) + ones_all (drop (i + 1) s)
+-- what is summed
+pub ones_summed : (r : ℕ) (s : List ℕ) → r ≡ sum_by ones s → r ≡ ones_all s
 unfolding ones_all
-ones_more s i h = rw (cut s i h)
-
--- no ones behind the end
-pub ones_none : (s : List ℕ) (i : ℕ) → length s ≤ i → ones_all (drop i s) ≡ 0
-unfolding ones_all
-ones_none s i h = rw (drop_of_length-le s h)
-
--- no byte is passed yet
-pub ones_part : (s : List ℕ) (at : ℕ) → 0 + ones_all (drop (at + 0) s) ≡ ones_all (drop at s)
-ones_part s at = let e : at + 0 ≡ at = omega arith in rw e (omega arith)
-
--- one byte more is passed
-pub ones_pass : (s : List ℕ) (at k : ℕ) → at + k < length s → ones_all (drop (at + k) s) ≡ ones (get_or s (at + k) 0) + ones_all (drop (at + (k + 1)) s)
-ones_pass s at k h = let a : (at + k) + 1 ≡ at + (k + 1) = omega arith in rw a at (ones_more s (at + k) h)
-
--- all sixteen are passed
-pub ones_sixteen : (s : List ℕ) (at k part sum : ℕ) → k ≤ 16 → 16 ≤ k → part + ones_all (drop (at + k) s) ≡ sum → part + ones_all (drop (at + 16) s) ≡ sum
-ones_sixteen s at k part sum h l e = let d : k ≡ 16 = omega arith in rw d at e
-
--- the ones of the first i bytes of n are summed
-pub record Counting (page : List ℕ) (n sum i : ℕ) : Type 0 where
-  pub whole : n ≡ length page
-  pub upto : i ≤ n
-  pub few : n ≤ 4294967296
-  pub small : sum ≤ 8 * i
-  pub is : sum + ones_all (drop i page) ≡ ones_all page
-
--- the next byte's are
-pub counted_more : {n sum : ℕ} (page : List ℕ) (i : ℕ) → Counting page n sum i → i < n → get_or page i 0 < 2 ^ 8 → Counting page n (sum + ones (get_or page i 0)) (i + 1)
-counted_more page i v h b =
-    let o : ones (get_or page i 0) ≤ 8 = ones-le 8 _ b in
-    let m = ones_more page i (omega (arith, v.whole)) in
-    record { whole = v.whole; upto = omega arith; few = v.few; small = omega (arith, v.small); is = omega (arith, v.is) }
-
--- all are
-pub counted : (page : List ℕ) (n sum i : ℕ) → Counting page n sum i → n ≤ i → sum ≡ ones_all page
-counted page n sum i v h = omega (arith, v.is, ones_none page i (omega (arith, v.whole)))
+ones_summed r s e = e ∙ sym (is_sum_by ones_all ones refl (λ _ _. refl) s)
 
 -- the ones of two parts
 ones_append : (s t : List ℕ) → ones_all (s ++ t) ≡ ones_all s + ones_all t
 unfolding ones_all
 ones_append [] t = omega arith
 ones_append (b ∷ s) t = let e = ones_append s t in omega arith
+
+-- the ones of k parts of n bytes each and of the bytes behind them are the ones of all
+pub ones_parts : (n k : ℕ) (s : List ℕ) → sum_by ones_all (first_chunks n k s) + ones_all (drop (k * n) s) ≡ ones_all s
+ones_parts n zero s = rw zero-mul (omega arith)
+ones_parts n (suc k) s =
+    let e = sum_by-cons ones_all (take n s) (first_chunks n k (drop n s)) in
+    let m : suc k * n ≡ n + k * n = suc-mul k n ∙ add_comm (k * n) n in
+    let d : drop (suc k * n) s ≡ drop (k * n) (drop n s) = rw m (sym (drop-drop (k * n) n s)) in
+    let a : ones_all (take n s) + ones_all (drop n s) ≡ ones_all s = rw (← ones_append (take n s) (drop n s), take-append-drop n s) in
+    rw d (omega (arith, e, a, ones_parts n k (drop n s)))
+
+-- the ones of the first i parts are summed, onto what was there at the start
+pub record Summing (parts : List (List ℕ)) (start sum i : ℕ) : Type 0 where
+  pub few : sum ≤ 255 * (i + 1)
+  pub is : sum ≡ start + sum_by ones_all (take i parts)
+
+-- at first those of no part
+pub summing_starts : (parts : List (List ℕ)) (start : ℕ) → start < 256 → Summing parts start start 0
+summing_starts parts start h = record { few = omega arith; is = omega arith }
+
+-- those of one part more
+pub summing_more : (parts : List (List ℕ)) (start sum i r : ℕ) → Summing parts start sum i → i < length parts → r ≡ ones_all (get_or parts i []) → r < 256
+    → Summing parts start (sum + r) (i + 1)
+summing_more parts start sum i r v h e l =
+    let m = sum_by_more ones_all parts i [] h in
+    record { few = omega (arith, v.few); is = omega (arith, v.is, m) }
+
+-- all are, and at the start there were the ones behind them
+pub summing_ends : (page rest : List ℕ) (parts : List (List ℕ)) (n k start sum i : ℕ) → Summing parts start sum i → length parts ≤ i
+    → parts ≡ first_chunks n k page → rest ≡ drop (k * n) page → start ≡ ones_all rest → sum ≡ ones_all page
+summing_ends page rest parts n k start sum i v h p e r =
+    let t : take i parts ≡ parts = take_all i parts h in
+    v.is ∙ rw (r, t, p, e) (omega (arith, ones_parts n k page))
 
 -- zeros have none
 ones_zeros : (n : ℕ) → ones_all (replicate n 0) ≡ 0

@@ -2,38 +2,36 @@
 #![tactic(auto)]
 
 ghost use Rattle.std.specs.Prelude.{◌≡◌, ◌+◌, ◌≤◌, length, drop};
+ghost use Rattle.std.specs.Int.Count.{ones};
 ghost use Rattle.common.specs.Bits.{ones_all};
 ghost use Rattle.dot_page.specs.Zeros.{FirstZero};
 
-// The dots of sixteen bytes from a place on, at most 128: summed in a byte.
-fn sixteen(page: &[u8], at: usize) -> u8
-    requires { at + 16 ≤ length page.now }
-    ensures { (result ≤ 128) × (result + ones_all (drop (at + 16) page.now) ≡ ones_all (drop at page.now)) }
+// The ones of a byte.
+fn ones_of(b: u8) -> u8
+    ensures value { result ≡ ones b }
+    ensures few { result ≤ 8 }
 {
-    let mut part: u8 = 0;
-    let mut k: usize = 0;
-    while k < 16 {
-        part += u8::count_ones(page[at + k]) as u8;
-        k += 1;
-    }
-    part
+    b.count_ones() as u8
 }
 
-// The dots set on a page: the ones of each byte, summed, by sixteens.
+// The dots of at most sixteen bytes: summed in a byte.
+#[tactic(auto, using(crate::proofs::Bytes::ones_summed))]
+fn few(bytes: &[u8]) -> u8
+    requires { length bytes.now ≤ 16 }
+    ensures { result ≡ ones_all bytes.now }
+{
+    bytes.iter().map(|b| ones_of(*b)).sum()
+}
+
+// The dots set on a page: the ones of each byte, summed by sixteens.
 pub fn count(page: &[u8]) -> usize
     requires { length page.now ≤ 4294967296 }
     ensures { result ≡ ones_all page.now }
 {
-    let n = page.len();
-    let mut sum: usize = 0;
-    let mut i: usize = 0;
-    while i + 16 <= n {
-        sum += common::wide(sixteen(page, i));
-        i += 16;
-    }
-    while i < n {
-        sum += u8::count_ones(page[i]) as usize;
-        i += 1;
+    let (sixteens, rest) = page.as_chunks::<16>();
+    let mut sum = usize::from(few(rest));
+    for bytes in sixteens {
+        sum += usize::from(few(bytes));
     }
     sum
 }

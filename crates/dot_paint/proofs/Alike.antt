@@ -60,11 +60,11 @@ lines_unmarked w row dots from e page u z s =
     (λ (l : x < from). no_ink row dots from x l)
     (le_or_lt from x)))
 
--- a row of one dot to a bit, without the zeros behind
-pub lines_used : (w : ℕ) (row : List ℕ) (dots from e : ℕ) (page after : List ℕ) → Used row e → dots ≡ 1 → after ≡ inked_lines w (take e row) 1 from 1 page → after ≡ inked_lines w row dots from dots page
+-- a row without the zeros behind
+pub lines_used : (w : ℕ) (row : List ℕ) (dots from e : ℕ) (page after : List ℕ) → Used row e → after ≡ inked_lines w (take e row) dots from dots page → after ≡ inked_lines w row dots from dots page
 unfolding dot
-lines_used w row dots from e page after u o g =
-    rw o (g ∙ lines_cong w (take e row) row 1 1 from 1 page (λ x l. ink_by (take e row) row 1 1 from x (λ k q. rw (used_at (k / 1 / 8)))))
+lines_used w row dots from e page after u g =
+    g ∙ lines_cong w (take e row) row dots dots from dots page (λ x l. ink_by (take e row) row dots dots from x (λ k q. rw (used_at (k / dots / 8))))
   where
     used_at : (i : ℕ) → get_or (take e row) i 0 ≡ get_or row i 0
     used_at i =

@@ -24,15 +24,15 @@ unfolding inked_lines inked_line
 lines_narrow row dots from zero page = refl
 lines_narrow row dots from (suc n) page = lines_narrow row dots from n page
 
--- the page rows before byte a are painted, and n are still to be
-pub record Covering (w : ℕ) (row : List ℕ) (dots from lines : ℕ) (before page : List ℕ) (a n : ℕ) : Type 0 where
+-- the first i of so many page rows are painted, and they stand before byte a
+pub record Covering (w : ℕ) (row : List ℕ) (dots from lines : ℕ) (before page : List ℕ) (a i : ℕ) : Type 0 where
   pub inside : a ≤ length page
   pub same : length page ≡ length before
-  pub is : inked_lines w row dots from lines before ≡ take a page ++ inked_lines w row dots from n (drop a page)
+  pub is : inked_lines w row dots from lines before ≡ take a page ++ inked_lines w row dots from (lines - i) (drop a page)
 
--- at first all are
-pub covering_starts : (w : ℕ) (row : List ℕ) (dots from lines : ℕ) (before : List ℕ) → Covering w row dots from lines before before 0 lines
-covering_starts w row dots from lines before = record { inside = omega arith; same = refl; is = refl }
+-- at first none is
+pub covering_starts : (w : ℕ) (row : List ℕ) (dots from lines : ℕ) (before : List ℕ) → Covering w row dots from lines before before 0 0
+covering_starts w row dots from lines before = let z : lines - 0 ≡ lines = omega arith in record { inside = omega arith; same = refl; is = rw z }
 
 -- the next page row is what is left of the page, at most w bytes
 next_row : (w c : ℕ) (rest : List ℕ) → c ≡ min w (length rest) → (take c rest ≡ take w rest) × (drop c rest ≡ drop w rest)
@@ -48,11 +48,11 @@ next_row w c rest e = ⊎_elim whole short (le_or_lt w (length rest))
         (rw (take_all c rest l, take_all w rest m), rw (drop_of_length-le rest l, drop_of_length-le rest m))
 
 -- one page row is painted, and has come back
-pub covering_again : (w : ℕ) (row : List ℕ) (dots from lines : ℕ) (before page part : List ℕ) (a n c : ℕ) → Covering w row dots from lines before page a n
-    → 0 < n → c ≡ min w (length page - a) → part ≡ inked_line row dots from 0 (take ((a + c) - a) (drop a page))
-    → Covering w row dots from lines before (put_back page a ((a + c) - a) part) (a + c) (n - 1)
+pub covering_again : (w : ℕ) (row : List ℕ) (dots from lines : ℕ) (before page part : List ℕ) (a i c : ℕ) → Covering w row dots from lines before page a i
+    → i < lines → c ≡ min w (length page - a) → part ≡ inked_line row dots from 0 (take ((a + c) - a) (drop a page))
+    → Covering w row dots from lines before (put_back page a ((a + c) - a) part) (a + c) (i + 1)
 unfolding inked_lines
-covering_again w row dots from lines before page part a n c v p e g =
+covering_again w row dots from lines before page part a i c v p e g =
     let m : (a + c) - a ≡ c = omega arith in
     let f : a + c ≤ length page = omega (arith, v.inside) in
     let q : c ≡ min w (length (drop a page)) = simp length-drop e in
@@ -60,7 +60,7 @@ covering_again w row dots from lines before page part a n c v p e g =
     let b : part ≡ inked_line row dots from 0 (take w (drop a page)) = rw (m, k.0) at g in
     let l : length part ≡ c = ap length g ∙ line_length row dots from 0 _ ∙ rw m (length-take-le c (drop a page) (simp length-drop (omega arith))) in
     let o : length (take a page ++ part) ≡ a + c = simp (length-append, length-take-le a page v.inside, l) in
-    let d : n ≡ suc (n - 1) = omega arith in
+    let d : lines - i ≡ suc (lines - (i + 1)) = omega arith in
     rw m
     (record {
       inside = rw (back_length page part a c f l) f;
@@ -72,15 +72,15 @@ covering_again w row dots from lines before page part a n c v p e g =
     })
 
 -- all are painted
-pub covering_ends : (w : ℕ) (row : List ℕ) (dots from lines : ℕ) (before page : List ℕ) (a n : ℕ) → Covering w row dots from lines before page a n → n ≤ 0
+pub covering_ends : (w : ℕ) (row : List ℕ) (dots from lines : ℕ) (before page : List ℕ) (a i : ℕ) → Covering w row dots from lines before page a i → lines ≤ i
     → page ≡ inked_lines w row dots from lines before
 unfolding inked_lines
-covering_ends w row dots from lines before page a n v h = let z : n ≡ 0 = omega arith in sym (v.is ∙ rw (z, take-append-drop))
+covering_ends w row dots from lines before page a i v h = let z : lines - i ≡ 0 = omega arith in sym (v.is ∙ rw (z, take-append-drop))
 
 -- the page ends before they are
-pub covering_stops : (w : ℕ) (row : List ℕ) (dots from lines : ℕ) (before page : List ℕ) (a n : ℕ) → Covering w row dots from lines before page a n → length page ≤ a
+pub covering_stops : (w : ℕ) (row : List ℕ) (dots from lines : ℕ) (before page : List ℕ) (a i : ℕ) → Covering w row dots from lines before page a i → length page ≤ a
     → page ≡ inked_lines w row dots from lines before
-covering_stops w row dots from lines before page a n v h = sym (v.is ∙ rw (drop_of_length-le page h, lines_none, take_all a page h) (append-nil page))
+covering_stops w row dots from lines before page a i v h = sym (v.is ∙ rw (drop_of_length-le page h, lines_none, take_all a page h) (append-nil page))
 
 -- page rows of no bytes: the page stays
 pub painted_narrow : (w : ℕ) (row : List ℕ) (dots from line : ℕ) (page : List ℕ) → w ≡ 0 → page ≡ painted w row dots from line page

@@ -24,22 +24,19 @@ by_dots P a b c (suc (suc (suc (suc zero)))) h l = c
 by_dots P a b c (suc (suc (suc (suc (suc n))))) h l = absurd (omega arith)
 
 -- the squares of a page row of at most 600 bytes are at most 600, which two, three and four divide
-pub square_room : (d w e n : ℕ) → 2 ≤ d → d ≤ 4 → w ≤ 600 → n ≡ min e (((w + d) - 1) / d) → d * n ≤ 600
-square_room d w e n h l k q =
-    by_dots (λ d. n ≡ min e (((w + d) - 1) / d) → d * n ≤ 600) (λ q. omega arith) (λ q. omega arith) (λ q. omega arith) d h l q
+pub square_room : (d w e n q : ℕ) → 2 ≤ d → d ≤ 4 → w ≤ 600 → q ≡ w / d + min 1 (w % d) → n ≡ min e q → d * n ≤ 600
+square_room d w e n q h l k =
+    by_dots (λ d. q ≡ w / d + min 1 (w % d) → n ≡ min e q → d * n ≤ 600) (λ v r. omega arith) (λ v r. omega arith) (λ v r. omega arith) d h l
 
 -- behind the squares a page row has no more of the row's dots
-past_square : (d w e n k : ℕ) → 2 ≤ d → d ≤ 4 → n ≡ min e (((w + d) - 1) / d) → d * n ≤ k / 8 → k < 8 * w → e ≤ k / d / 8
-past_square d w e n k h l =
-    by_dots (λ d. n ≡ min e (((w + d) - 1) / d) → d * n ≤ k / 8 → k < 8 * w → e ≤ k / d / 8) (λ q r s. omega arith) (λ q r s. omega arith) (λ q r s. omega arith) d h l
+past_square : (d w e n q k : ℕ) → 2 ≤ d → d ≤ 4 → q ≡ w / d + min 1 (w % d) → n ≡ min e q → d * n ≤ k / 8 → k < 8 * w → e ≤ k / d / 8
+past_square d w e n q k h l =
+    by_dots (λ d. q ≡ w / d + min 1 (w % d) → n ≡ min e q → d * n ≤ k / 8 → k < 8 * w → e ≤ k / d / 8) (λ v q r s. omega arith) (λ v q r s. omega arith)
+    (λ v q r s. omega arith) d h l
 
 -- the first n of k zeros
 pub zeros_length : (n k : ℕ) → n ≤ k → n ≡ length {A = ℕ} (take n (replicate k 0))
 zeros_length n k h = sym (length-take-le {A = ℕ} n (replicate k 0) (simp length-replicate h))
-
--- a row's used bytes
-pub used_length : (row : List ℕ) (e : ℕ) → Used row e → e ≡ length (take e row)
-used_length row e u = sym (length-take-le e row u.inside)
 
 module _ (row : List ℕ) (d n m : ℕ) (before list behind : List ℕ) (e : m ≡ length before) (k : Squared row d n before list) where
   -- m bytes are there
@@ -55,17 +52,17 @@ module _ (row : List ℕ) (d n m : ℕ) (before list behind : List ℕ) (e : m �
   squares_length = rw squares_first (e ∙ sym k.same)
 
   -- laid, they are the row's ink
-  pub lines_squared : (w u from : ℕ) (page after : List ℕ) → 2 ≤ d → d ≤ 4 → Used row u → n ≡ min u (((w + d) - 1) / d) → m ≡ d * n
+  pub lines_squared : (w u from q : ℕ) (page after : List ℕ) → 2 ≤ d → d ≤ 4 → Used row u → q ≡ w / d + min 1 (w % d) → n ≡ min u q → m ≡ d * n
       → after ≡ inked_lines w (take m (list ++ behind)) 1 from d page → after ≡ inked_lines w row d from d page
   unfolding dot
-  lines_squared w u from page after h l v q r g =
+  lines_squared w u from q page after h l v c x r g =
       g ∙ rw squares_first (lines_cong w list row 1 d from d page (λ x y. ink_by list row 1 d from x (λ i z. let o : i / 1 ≡ i = omega arith in rw o (same_dot i (omega arith)))))
     where
       same_dot : (i : ℕ) → i < 8 * w → dot list i ≡ dot row (i / d)
       same_dot i y =
           ⊎_elim
           (λ (a : d * n ≤ i / 8).
-          ap (λ b. bit b (i % 8)) (get_or-eq_default list 0 (omega (arith, k.same))) ∙ bit_zero (i % 8) ∙ sym (past_used row u (i / d) v (past_square d w u n i h l q a y)))
+          ap (λ b. bit b (i % 8)) (get_or-eq_default list 0 (omega (arith, k.same))) ∙ bit_zero (i % 8) ∙ sym (past_used row u (i / d) v (past_square d w u n q i h l c x a y)))
           (λ (a : i / 8 < d * n).
           let o : 8 * (i / 8) + i % 8 ≡ i = omega arith in
           ap (λ b. bit b (i % 8)) (k.is (i / 8) a) ∙ square_dot row d (i / 8) (i % 8) (omega arith) ∙ ap (λ j. dot row (j / d)) o)

@@ -2,39 +2,39 @@
 #![tactic(auto)]
 
 ghost use Rattle.std.specs.Prelude.{◌≡◌, ◌≤◌, ◌<◌};
-ghost use Rattle.rules.specs.Dots.{inked_lines, painted};
+ghost use Rattle.rules.specs.Dots.{inked_line, inked_lines, painted};
 ghost use Rattle.dot_ink.specs.Ink.{Used};
 
 use dot_ink::{squares, used};
 use dot_lay::lay;
 use dot_slowly::paint_slowly;
 
-// So many page rows, each lent on to be painted with a source, one dot to a bit, as far as the page goes.
-fn lay_lines(page: &mut [u8], wide: usize, src: &[u8], lines: usize, from: usize)
-    ensures { page.new ≡ inked_lines wide src.now 1 from lines page.old }
+// A page row painted with a row: laid where a bit is one dot, and dot by dot where it is more.
+fn paint_line(part: &mut [u8], row: &[u8], dots: usize, from: usize)
+    requires { 0 < dots }
+    ensures { part.new ≡ inked_line row.now dots from 0 part.old }
 {
-    let mut a: usize = 0;
-    let mut n = lines;
-    while 0 < n && a < page.len() {
-        let b = a + common::least(wide, page.len() - a);
-        lay(&mut page[a..b], src, from);
-        a = b;
-        n -= 1;
+    if dots == 1 {
+        lay(part, row, from);
+    } else {
+        paint_slowly(part, row, dots, from);
     }
 }
 
-// The page rows of a row's squares, each lent on to be painted dot by dot.
-fn slow_lines(page: &mut [u8], wide: usize, row: &[u8], dots: usize, from: usize)
+// So many page rows, each lent on to be painted with a row, as far as the page goes. Not by `chunks_mut`: of a slice that it has lent, a proof
+// knows the length alone.
+fn paint_lines(page: &mut [u8], wide: usize, row: &[u8], dots: usize, from: usize, lines: usize)
     requires { 0 < dots }
-    ensures { page.new ≡ inked_lines wide row.now dots from dots page.old }
+    ensures { page.new ≡ inked_lines wide row.now dots from lines page.old }
 {
-    let mut a: usize = 0;
-    let mut n = dots;
-    while 0 < n && a < page.len() {
-        let b = a + common::least(wide, page.len() - a);
-        paint_slowly(&mut page[a..b], row, dots, from);
+    let mut a = 0;
+    for _ in 0..lines {
+        if page.len() <= a {
+            return;
+        }
+        let b = a + wide.min(page.len() - a);
+        paint_line(&mut page[a..b], row, dots, from);
         a = b;
-        n -= 1;
     }
 }
 
@@ -44,10 +44,10 @@ fn lay_squares(page: &mut [u8], wide: usize, row: &[u8], dots: usize, from: usiz
     ensures { page.new ≡ inked_lines wide row.now dots from dots page.old }
 {
     let mut ink = [0u8; 600];
-    let n = common::least(e, (wide + dots - 1) / dots);
+    let n = e.min(wide.div_ceil(dots));
     let m = dots * n;
     squares(&mut ink[..m], row, n, dots);
-    lay_lines(page, wide, &ink[..m], dots, from);
+    paint_lines(page, wide, &ink[..m], 1, from, dots);
 }
 
 // The page from the row's first page row on. Squares of more than four dots, and on page rows of more than 600 bytes, which no page
@@ -62,19 +62,11 @@ fn paint_rest(page: &mut [u8], wide: usize, row: &[u8], dots: usize, from: usize
     if e == 0 {
         return;
     }
-    if dots == 1 {
-        lay_lines(page, wide, &row[..e], 1, from);
-        return;
+    if (2..=4).contains(&dots) && wide <= 600 {
+        lay_squares(page, wide, row, dots, from, e);
+    } else {
+        paint_lines(page, wide, &row[..e], dots, from, dots);
     }
-    if 4 < dots {
-        slow_lines(page, wide, row, dots, from);
-        return;
-    }
-    if 600 < wide {
-        slow_lines(page, wide, row, dots, from);
-        return;
-    }
-    lay_squares(page, wide, row, dots, from, e);
 }
 
 // A row painted from dot (from, line) on, with squares of so many dots; `wide` bytes are a page row. Other dots stay.

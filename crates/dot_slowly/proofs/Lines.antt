@@ -13,7 +13,6 @@ use Rattle.common.proofs.Parts.{put_back}
 use Rattle.rules.specs.Dots.{ink, inked_line}
 use Rattle.dot_lay.specs.Laid.{ink_byte}
 use Rattle.dot_slowly.specs.declared.Walk.{Walk}
-use Rattle.dot_slowly.specs.declared.Eight.{Eight}
 use Rattle.dot_slowly.specs.Walks.{Stands, Eighth}
 use Rattle.theorems.proofs.Inks.{ink_lt}
 use Rattle.dot_lay.proofs.Lines.{or_ink, stored}
@@ -62,24 +61,24 @@ walking_starts row dots from before h =
     record { inked = inking_starts row dots from before; stands = stands_first dots from h; near = omega arith }
 
 -- one byte more is
-walking_again : (row : List ℕ) (dots from : ℕ) (before part : List ℕ) (at : Walk) (j : ℕ) (e : Eight) → Walking row dots from before part at j
+walking_again : (row : List ℕ) (dots from : ℕ) (before part : List ℕ) (at : Walk) (j : ℕ) (e : ℕ × Walk) → Walking row dots from before part at j
     → j < length part → get_or part j 0 < 256 → Eighth row dots at e
-    → Walking row dots from before (set part j (bit_or (get_or part j 0) e.ink)) e.next (j + 1)
+    → Walking row dots from before (set part j (bit_or (get_or part j 0) e.0)) e.1 (j + 1)
 unfolding ink_byte
 walking_again row dots from before part at j e v h b g =
     let x : 8 * j + 8 ≡ 8 * (j + 1) = omega arith in
-    let s : Stands dots from (8 * (j + 1)) e.next = rw x at (g.next from (8 * j) v.stands) in
+    let s : Stands dots from (8 * (j + 1)) e.1 = rw x at (g.next from (8 * j) v.stands) in
     record {
-      inked = inking_again row dots from before part j e.ink v.inked h b (g.inks from (8 * j) v.stands);
+      inked = inking_again row dots from before part j e.0 v.inked h b (g.inks from (8 * j) v.stands);
       stands = s;
-      near = omega (arith, stands_near dots from (8 * (j + 1)) e.next s);
+      near = omega (arith, stands_near dots from (8 * (j + 1)) e.1 s);
     }
 
 -- one byte more is: the page row was lent from it on, to be painted with one byte
-pub walking_laid : (row : List ℕ) (dots from : ℕ) (before part after : List ℕ) (at : Walk) (j : ℕ) (e : Eight) → Walking row dots from before part at j
+pub walking_laid : (row : List ℕ) (dots from : ℕ) (before part after : List ℕ) (at : Walk) (j : ℕ) (e : ℕ × Walk) → Walking row dots from before part at j
     → j < length part → ((i : ℕ) → get_or part i 0 < 256) → Eighth row dots at e
-    → after ≡ inked_line (e.ink ∷ []) 1 0 0 (take (length part - j) (drop j part)) → Walking row dots from before (put_back part j (length part - j) after) e.next (j + 1)
+    → after ≡ inked_line (e.0 ∷ []) 1 0 0 (take (length part - j) (drop j part)) → Walking row dots from before (put_back part j (length part - j) after) e.1 (j + 1)
 walking_laid row dots from before part after at j e v h s g l =
     let f : ℕ → ℕ = λ i. ink row dots from (8 * j + i) in
-    let k : e.ink < 256 = rw (g.inks from (8 * j) v.stands) (byte_of_lt f (λ i. ink_lt row dots from (8 * j + i))) in
-    rw (laid_one part after j e.ink h k s l) (walking_again row dots from before part at j e v h (s j) g)
+    let k : e.0 < 256 = rw (g.inks from (8 * j) v.stands) (byte_of_lt f (λ i. ink_lt row dots from (8 * j + i))) in
+    rw (laid_one part after j e.0 h k s l) (walking_again row dots from before part at j e v h (s j) g)

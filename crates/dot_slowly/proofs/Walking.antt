@@ -20,7 +20,7 @@ use Rattle.dot_slowly.specs.Walks.{Onward, Seen, Stands, Eighth}
 
 -- the last dot of a byte's last bit is behind: the next byte's first
 pub next_byte : (dots : ℕ) (w : Walk) → w.skip ≤ 0 → w.done < dots → dots ≤ w.done + 1 → w.bit < 8 → 7 ≤ w.bit
-    → Onward dots w (record { skip = 0; byte = w.byte + 1; bit = 0; done = 0 })
+    → Onward dots w (record { skip = w.skip; byte = w.byte + 1; bit = 0; done = 0 })
 next_byte dots w s d e b c =
     let n : 8 * (w.byte + 1) + 0 ≡ suc (8 * w.byte + w.bit) = omega arith in
     let p : (8 * (w.byte + 1) + 0) * dots ≡ (8 * w.byte + w.bit) * dots + dots = rw n (suc-mul (8 * w.byte + w.bit) dots) in
@@ -111,7 +111,7 @@ packing_again row dots start packs at i d next v h s o =
 
 -- eight are packed
 pub packing_ends : (row : List ℕ) (dots : ℕ) (start : Walk) (packs : ℕ) (at : Walk) (i : ℕ) → Packing row dots start packs at i → 8 ≤ i
-    → Eighth row dots start (record { ink = packs; next = at })
+    → Eighth row dots start (packs, at)
 packing_ends row dots start packs at i v h =
     let e : i ≡ 8 = omega (arith, v.upto) in
     record {

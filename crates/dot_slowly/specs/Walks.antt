@@ -3,7 +3,6 @@ use Rattle.std.specs.Prelude.{◌≡◌, List, ℕ, ◌+◌, ◌*◌, ◌≤◌,
 use Rattle.common.specs.Bits.{bit, byte_of}
 use Rattle.rules.specs.Dots.{ink}
 use Rattle.dot_slowly.specs.declared.Walk.{Walk}
-use Rattle.dot_slowly.specs.declared.Eight.{Eight}
 
 -- how many dots of the row were seen before
 abbrev pub passed : ℕ → Walk → ℕ
@@ -31,6 +30,6 @@ pub record Stands (dots from x : ℕ) (w : Walk) : Type 0 where
   pub waits : 0 < w.skip → passed dots w ≡ 0
 
 -- r is the ink of the eight dots from w on, and where the next one is
-pub record Eighth (row : List ℕ) (dots : ℕ) (w : Walk) (r : Eight) : Type 0 where
-  pub inks : (from x : ℕ) → Stands dots from x w → r.ink ≡ byte_of (λ i. ink row dots from (x + i))
-  pub next : (from x : ℕ) → Stands dots from x w → Stands dots from (x + 8) r.next
+pub record Eighth (row : List ℕ) (dots : ℕ) (w : Walk) (r : ℕ × Walk) : Type 0 where
+  pub inks : (from x : ℕ) → Stands dots from x w → r.0 ≡ byte_of (λ i. ink row dots from (x + i))
+  pub next : (from x : ℕ) → Stands dots from x w → Stands dots from (x + 8) r.1

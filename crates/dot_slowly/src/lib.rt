@@ -3,7 +3,6 @@
 
 ghost use Rattle.std.specs.Prelude.{◌≡◌, ◌≤◌, ◌<◌};
 ghost use Rattle.rules.specs.Dots.{inked_line};
-ghost use Rattle.dot_slowly.specs.Walks.{Onward, Seen, Eighth};
 
 use dot_lay::lay;
 
@@ -17,79 +16,68 @@ struct Walk {
     done: usize,
 }
 
-// One dot on.
-fn onward(w: Walk, dots: usize) -> Walk
-    requires { (w.done < dots) × (w.bit < 8) × (w.byte < 18446744073709551615) }
-    ensures { Onward dots w result }
-{
-    if 0 < w.skip {
-        return Walk {
-            skip: w.skip - 1,
-            byte: w.byte,
-            bit: w.bit,
-            done: w.done,
-        };
+impl Walk {
+    ghost use Rattle.dot_slowly.specs.Walks.{Onward, Seen, Eighth};
+
+    // One dot on.
+    #[tactic(auto, using(crate::proofs::Walking::next_byte))]
+    fn onward(self, dots: usize) -> Walk
+        requires { (self.done < dots) × (self.bit < 8) × (self.byte < 18446744073709551615) }
+        ensures { Onward dots self result }
+    {
+        if 0 < self.skip {
+            Walk {
+                skip: self.skip - 1,
+                ..self
+            }
+        } else if self.done + 1 < dots {
+            Walk {
+                done: self.done + 1,
+                ..self
+            }
+        } else if self.bit < 7 {
+            Walk {
+                bit: self.bit + 1,
+                done: 0,
+                ..self
+            }
+        } else {
+            Walk {
+                byte: self.byte + 1,
+                bit: 0,
+                done: 0,
+                ..self
+            }
+        }
     }
-    if w.done + 1 < dots {
-        return Walk {
-            skip: 0,
-            byte: w.byte,
-            bit: w.bit,
-            done: w.done + 1,
-        };
+
+    // The dot that the row sets there.
+    fn seen(self, row: &[u8]) -> u8
+        requires { self.bit < 8 }
+        ensures { Seen row.now self result }
+    {
+        if 0 < self.skip {
+            return 0;
+        }
+        (common::byte_at(row, self.byte) >> (7 - self.bit)) % 2
     }
-    if w.bit < 7 {
-        return Walk {
-            skip: 0,
-            byte: w.byte,
-            bit: w.bit + 1,
-            done: 0,
-        };
-    }
-    Walk {
-        skip: 0,
-        byte: w.byte + 1,
-        bit: 0,
-        done: 0,
+
+    // The ink of eight dots, the first one highest, and where the next one is.
+    fn eight(self, row: &[u8], dots: usize) -> (u8, Walk)
+        requires { (self.done < dots) × (self.bit < 8) × (self.byte ≤ 9223372036854775808) }
+        ensures { Eighth row.now dots self result }
+    {
+        let mut ink = 0;
+        let mut at = self;
+        for _ in 0..8_u8 {
+            ink = ink % 128 * 2 + at.seen(row);
+            at = at.onward(dots);
+        }
+        (ink, at)
     }
 }
 
-// The dot that the row sets there.
-fn seen(row: &[u8], w: Walk) -> u8
-    requires { w.bit < 8 }
-    ensures { Seen row.now w result }
-{
-    if 0 < w.skip {
-        return 0;
-    }
-    let b = common::byte_at(row, w.byte);
-    (b >> (7 - w.bit)) % 2
-}
-
-// Eight dots, the first one highest, and where the next one is.
-#[derive(Drop)]
-struct Eight {
-    ink: u8,
-    next: Walk,
-}
-
-// The ink of eight dots.
-fn ink_of_eight(row: &[u8], w: Walk, dots: usize) -> Eight
-    requires { (w.done < dots) × (w.bit < 8) × (w.byte ≤ 9223372036854775808) }
-    ensures { Eighth row.now dots w result }
-{
-    let mut ink: u8 = 0;
-    let mut at = w;
-    let mut i: usize = 0;
-    while i < 8 {
-        ink = ink % 128 * 2 + seen(row, at);
-        at = onward(at, dots);
-        i += 1;
-    }
-    Eight { ink: ink, next: at }
-}
-
-// A page row painted dot by dot: for squares and rows of any size.
+// A page row painted dot by dot: for squares and rows of any size. Eight dots at a time are laid, since all that paints goes through `lay`.
 pub fn paint_slowly(part: &mut [u8], row: &[u8], dots: usize, from: usize)
     requires { 0 < dots }
     ensures { part.new ≡ inked_line row.now dots from 0 part.old }
@@ -100,13 +88,9 @@ pub fn paint_slowly(part: &mut [u8], row: &[u8], dots: usize, from: usize)
         bit: 0,
         done: 0,
     };
-    let mut j: usize = 0;
-    while j < part.len() {
-        let e = ink_of_eight(row, at, dots);
-        let next = e.next;
-        let one = [e.ink];
-        lay(&mut part[j..], &one, 0);
+    for j in 0..part.len() {
+        let (ink, next) = at.eight(row, dots);
+        lay(&mut part[j..], &[ink], 0);
         at = next;
-        j += 1;
     }
 }

@@ -1,21 +1,10 @@
 -- What a word of the command line gives. Assumes nothing.
-use mathlib.Core.Path.{◌≡◌, sym}
+use mathlib.Core.Path.{◌≡◌}
 use mathlib.Core.List.{List}
-use Prim.Native.Nat.{ℕ, ◌≤◌}
-use native.Mathlib.Omega.{arith}
-use lib.ListN.{length, take}
-use lib.Seq.{length-take-le}
-use Rattle.given.specs.Words.{SpeltBy}
+use Prim.Native.Nat.{ℕ}
+use Rattle.given.specs.Words.{ReadBy, SpeltBy}
 
-module _ (n : ℕ) (bytes : List ℕ) (h : (n ≤ 20) × (length bytes ≡ 20)) where
-  -- the bytes of a word lie in their place
-  pub word_inside : n ≤ length bytes
-  word_inside = omega arith
-
-  -- they are so many
-  pub word_long : n ≡ length (take n bytes)
-  word_long = sym (length-take-le n bytes word_inside)
-
-  -- what they are read as
-  pub word_spelt : {read : List ℕ → ℕ} {otherwise r : ℕ} → r ≡ read (take n bytes) → SpeltBy read otherwise r
-  word_spelt e = rw e (SpeltBy.word (take n bytes) (let l = word_long in omega arith))
+-- what is given for a word is what it spells
+pub spelt_by : {gives : List ℕ → ℕ → Type 0} (read : List ℕ → ℕ) {otherwise r : ℕ} → ((w : List ℕ) (n : ℕ) → gives w n → n ≡ read w) → ReadBy gives otherwise r → SpeltBy read otherwise r
+spelt_by read f ReadBy.none = SpeltBy.none
+spelt_by read f (ReadBy.word w n l g) = rw (f w n g) (SpeltBy.word w l)

@@ -1,10 +1,11 @@
-// What a program is given: the words of its command line, and its job on standard input. A read that fails is told from the end of
-// the job. Which words there are, and which bytes come, no contract can say; what is made of them is stated.
+// What a program is given: the words of its command line, and its job on standard input; and how it says that it could not do with it. A read that fails is told
+// from the end of the job. Which words there are, and which bytes come, no contract can say; what is made of them is stated.
 #![tactic(auto)]
 
-ghost use Rattle.std.specs.Prelude.{◌≡◌, ◌≤◌, length};
-ghost use Rattle.given.specs.Words.{Spelt, SpeltItems};
-ghost use Rattle.given.specs.Reads.{read_said, Came, Within, no_job};
+ghost use Rattle.std.specs.Prelude.{◌≡◌, length};
+ghost use Rattle.std.specs.Fn.{FnOnceReturnsAt};
+ghost use Rattle.given.specs.Words.{ReadBy, Spelt, SpeltItems};
+ghost use Rattle.given.specs.Reads.{Within, Whole, no_job, no_page};
 
 use rules::LONGEST_STREAM;
 use std::env::FillError;
@@ -12,50 +13,22 @@ use std::io;
 use std::io::Read;
 use std::rt::Env;
 
-// The job, by the number of its bytes, or that it could not be read.
-#[derive(Drop)]
-pub enum Given {
-    Job(usize),
-    Unread,
-}
-
-// A word of the command line, if there is such a word: the first bytes of their place.
-#[derive(Drop)]
-struct Word {
-    there: bool,
-    length: usize,
-    bytes: [u8; 20],
-}
-
-// What one read says: how many bytes came, that the job is over, or that it failed.
-#[derive(Drop)]
-enum Said {
-    Bytes(usize),
-    Over,
-    Failed,
-}
-
-// Word i of the command line; one of more than 20 bytes has none.
-fn word_at(rt: &impl Env, i: usize) -> Word
-    ensures { (result.length ≤ 20) × (length result.bytes ≡ 20) }
+// The number that word i of the command line gives, as it is read, or another where there is no such word. A word of more than 20 bytes is read as
+// one of none.
+fn word_read<E: Env, F: FnOnce(&[u8]) -> usize>(
+    rt: &E,
+    i: usize,
+    otherwise: usize,
+    read: F,
+) -> usize
+    requires { F.IsAlwaysCallable read }
+    ensures { ReadBy (FnOnceReturnsAt F.FnOnce read) otherwise result }
 {
     let mut bytes = [0u8; 20];
     match rt.arg(i, &mut bytes) {
-        Ok(length) => Word {
-            there: true,
-            length,
-            bytes,
-        },
-        Err(FillError::TooLong) => Word {
-            there: true,
-            length: 0,
-            bytes,
-        },
-        Err(FillError::NotPresent) => Word {
-            there: false,
-            length: 0,
-            bytes,
-        },
+        Ok(n) => read(&bytes[..n]),
+        Err(FillError::TooLong) => read(&[]),
+        Err(FillError::NotPresent) => otherwise,
     }
 }
 
@@ -63,26 +36,14 @@ fn word_at(rt: &impl Env, i: usize) -> Word
 pub fn measure_word(rt: &impl Env, i: usize, otherwise: usize) -> usize
     ensures { Spelt otherwise result }
 {
-    let word = word_at(rt, i);
-    if !word.there {
-        return otherwise;
-    }
-    let bytes = word.bytes;
-    let n = word.length;
-    number_word::measure_of_word(&bytes[..n])
+    word_read(rt, i, otherwise, number_word::measure_of_word)
 }
 
 // The number of items that word i of the command line gives, or another where there is no such word. A word of more than 20 bytes is none.
 pub fn items_word(rt: &impl Env, i: usize, otherwise: usize) -> usize
     ensures { SpeltItems otherwise result }
 {
-    let word = word_at(rt, i);
-    if !word.there {
-        return otherwise;
-    }
-    let bytes = word.bytes;
-    let n = word.length;
-    number_word::items_of_word(&bytes[..n])
+    word_read(rt, i, otherwise, number_word::items_of_word)
 }
 
 // A place for the longest job and one byte, so that a longer one is seen to be longer. A function of its own hides the zeros, of which
@@ -93,41 +54,46 @@ pub fn longest_input() -> [u8; LONGEST_STREAM + 1]
     [0u8; LONGEST_STREAM + 1]
 }
 
-// What the answer of a read means.
-fn said_by(got: io::Result<usize>) -> Said
-    ensures { result ≡ read_said got }
+// A place for the largest page, 4,800 by 6,800 dots, without a dot. A function of its own hides these zeros, too.
+pub fn largest_page() -> [u8; 4080000]
+    ensures blank { result ≡ no_page }
+    ensures bytes { 4080000 ≡ length result }
 {
-    let Ok(n) = got else {
-        return Said::Failed;
-    };
-    if n == 0 {
-        return Said::Over;
-    }
-    Said::Bytes(n)
+    [0u8; 4080000]
 }
 
-// One read, to behind the bytes that came before.
-fn read_on(from: &mut impl Read, input: &mut [u8], done: usize) -> Said
-    requires { done ≤ length input.old }
-    ensures { Came done result input.new }
+// Reads the job to its end, or until the place for it is full: how many bytes came. A read that fails, or is interrupted, ends the reading.
+pub fn read_job<R: Read>(from: &mut R, input: &mut [u8]) -> io::Result<usize>
+    ensures within { Within result input.new }
+    ensures whole { Whole (R.remaining from.new) result input.new }
 {
-    said_by(from.read(&mut input[done..]))
-}
-
-// Reads the job to its end, or until the place for it is full.
-pub fn read_job(from: &mut impl Read, input: &mut [u8]) -> Given
-    ensures { Within result input.new }
-{
-    let mut done: usize = 0;
+    let mut done = 0;
     while done < input.len() {
-        let said = read_on(from, input, done);
-        match said {
-            Said::Failed => return Given::Unread,
-            Said::Over => return Given::Job(done),
-            Said::Bytes(n) => {
-                done += n;
-            }
+        let n = from.read(&mut input[done..])?;
+        if n == 0 {
+            break;
         }
+        done += n;
     }
-    Given::Job(done)
+    Ok(done)
+}
+
+// A program's answer to the job that it is given, which `write` writes. On standard error it says UNREAD where the job cannot be read, and UNWRITTEN where a write
+// fails; no program says more.
+pub fn answer<F: FnOnce(&[u8]) -> io::Result<()>>(
+    from: &mut impl Read,
+    err: &impl Print,
+    input: &mut [u8],
+    write: F,
+)
+    requires { F.IsAlwaysCallable write }
+    ensures { length input.new ≡ length input.old }
+{
+    let Ok(n) = read_job(from, input) else {
+        let _ = err.write_all(b"UNREAD\n");
+        return;
+    };
+    if write(&input[..n]).is_err() {
+        let _ = err.write_all(b"UNWRITTEN\n");
+    }
 }

@@ -12,6 +12,7 @@ ghost use Rattle.read_item.specs.Items.{read_at};
 ghost use Rattle.row_decode.specs.Decoding.{Decoded};
 ghost use Rattle.leaf_field.specs.Fields.{sign_number, opened, field, value_of};
 
+use common::Writer;
 use leaf_field::{field_of, sign_of, size_of};
 use rules::{Sequence, Value};
 
@@ -20,9 +21,7 @@ use rules::{Sequence, Value};
 pub extern "C" fn rov_value_sign(s: &[u8], at: usize) -> u32
     ensures { result ≡ sign_number (value (drop at s.now)).value }
 {
-    let v = read_number::read_value(s, at);
-    let x = v.value;
-    sign_of(x)
+    sign_of(read_number::read_value(s, at).value)
 }
 
 // The size of the value at a place.
@@ -30,9 +29,7 @@ pub extern "C" fn rov_value_sign(s: &[u8], at: usize) -> u32
 pub extern "C" fn rov_value_size(s: &[u8], at: usize) -> u32
     ensures { result ≡ size_of (value (drop at s.now)).value }
 {
-    let v = read_number::read_value(s, at);
-    let x = v.value;
-    size_of(x)
+    size_of(read_number::read_value(s, at).value)
 }
 
 // The place behind the value at a place.
@@ -40,8 +37,7 @@ pub extern "C" fn rov_value_size(s: &[u8], at: usize) -> u32
 pub extern "C" fn rov_value_next(s: &[u8], at: usize) -> usize
     ensures { result ≡ at + (length (drop at s.now) - length (value (drop at s.now)).rest) }
 {
-    let v = read_number::read_value(s, at);
-    v.next
+    read_number::read_value(s, at).next
 }
 
 // The open sequence from its two bytes, 0 for none.
@@ -60,9 +56,19 @@ fn opened_by(first: u8, group: u8) -> Sequence
 pub extern "C" fn rov_item_field(s: &[u8], at: usize, first: u8, group: u8, n: u8) -> usize
     ensures { result ≡ field (read_at s.now at (opened first group)) n }
 {
-    let q = opened_by(first, group);
-    let r = read_item::read_item(s, at, q);
+    let r = read_item::read_item(s, at, opened_by(first, group));
     field_of(r, n)
+}
+
+// A value from its sign and size.
+fn value_from(relative: bool, negative: bool, size: u32) -> Value
+    ensures { result ≡ value_of relative negative size }
+{
+    if relative {
+        Value::Relative { negative, size }
+    } else {
+        Value::Absolute(size)
+    }
 }
 
 // The plain form of a value, written at a place of the room.
@@ -76,11 +82,10 @@ pub extern "C" fn rov_write_value(
 ) -> usize
     ensures { Wrote room.old at (put_value (value_of relative negative size) []) room.new result }
 {
-    if relative {
-        number_write::write_value(Value::Relative { negative, size }, room, at)
-    } else {
-        number_write::write_value(Value::Absolute(size), room, at)
-    }
+    let at = at.min(room.len());
+    let mut out = Writer { room, at };
+    number_write::write_value(value_from(relative, negative, size), &mut out);
+    out.at
 }
 
 // A row decoded into the seed row: whether it came whole.

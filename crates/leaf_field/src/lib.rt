@@ -15,17 +15,20 @@ pub fn sign_of(v: Value) -> u32
 {
     match v {
         Value::Absolute(_) => 0,
-        Value::Relative { negative, size: _ } => if negative { 2 } else { 1 },
+        Value::Relative {
+            negative: false,
+            ..
+        } => 1,
+        Value::Relative { negative: true, .. } => 2,
     }
 }
 
-// A value's size.
+// A value's size. It is written here once more than in do_value, as the leaves use nothing of what carries commands out.
 pub fn size_of(v: Value) -> u32
     ensures { result ≡ size_of v }
 {
     match v {
-        Value::Absolute(n) => n,
-        Value::Relative { negative: _, size } => size,
+        Value::Absolute(size) | Value::Relative { size, .. } => size,
     }
 }
 
@@ -33,27 +36,7 @@ pub fn size_of(v: Value) -> u32
 fn kind_number(k: Kind) -> usize
     ensures { result ≡ kind_number k }
 {
-    match k {
-        Kind::Column => 1,
-        Kind::DecipointAcross => 2,
-        Kind::DotAcross => 3,
-        Kind::DecipointDown => 4,
-        Kind::DotDown => 5,
-        Kind::Line => 6,
-        Kind::LeftMargin => 7,
-        Kind::RightMargin => 8,
-        Kind::TopMargin => 9,
-        Kind::Vmi => 10,
-        Kind::LinesPerInch => 11,
-        Kind::Hmi => 12,
-        Kind::Termination => 13,
-        Kind::PushPop => 14,
-        Kind::Resolution => 15,
-        Kind::StartRaster => 16,
-        Kind::EndRaster => 17,
-        Kind::ResetRaster => 18,
-        Kind::SkipRows => 19,
-    }
+    k as usize
 }
 
 // A command's number, 0 if it is not carried.
@@ -74,10 +57,9 @@ fn command_sign(k: Command) -> usize
     ensures { result ≡ command_sign k }
 {
     match k {
-        Command::Valued(_, v) => sign_of(v) as usize,
-        Command::Method(v) => sign_of(v) as usize,
-        Command::Print(v) => sign_of(v) as usize,
-        Command::Row(v) => sign_of(v) as usize,
+        Command::Valued(_, v) | Command::Method(v) | Command::Print(v) | Command::Row(v) => {
+            sign_of(v) as usize
+        }
         Command::Unknown => 0,
     }
 }
@@ -87,10 +69,9 @@ fn command_size(k: Command) -> usize
     ensures { result ≡ command_size k }
 {
     match k {
-        Command::Valued(_, v) => size_of(v) as usize,
-        Command::Method(v) => size_of(v) as usize,
-        Command::Print(v) => size_of(v) as usize,
-        Command::Row(v) => size_of(v) as usize,
+        Command::Valued(_, v) | Command::Method(v) | Command::Print(v) | Command::Row(v) => {
+            size_of(v) as usize
+        }
         Command::Unknown => 0,
     }
 }
@@ -103,11 +84,7 @@ fn item_number(i: Item) -> usize
         Item::Text(_) => 0,
         Item::Code(_) => 1,
         Item::Two(_) => 2,
-        Item::Command {
-            command: _,
-            from: _,
-            to: _,
-        } => 3,
+        Item::Command { .. } => 3,
         Item::Broken(_) => 4,
     }
 }
@@ -117,14 +94,8 @@ fn detail_of(i: Item) -> usize
     ensures { result ≡ detail i }
 {
     match i {
-        Item::Text(b) => b as usize,
-        Item::Code(b) => b as usize,
-        Item::Two(b) => b as usize,
-        Item::Command {
-            command,
-            from: _,
-            to: _,
-        } => command_number(command),
+        Item::Text(b) | Item::Code(b) | Item::Two(b) => usize::from(b),
+        Item::Command { command, .. } => command_number(command),
         Item::Broken(f) => finding_number(f) as usize,
     }
 }
@@ -134,15 +105,8 @@ fn value_sign(i: Item) -> usize
     ensures { result ≡ value_sign i }
 {
     match i {
-        Item::Text(_) => 0,
-        Item::Code(_) => 0,
-        Item::Two(_) => 0,
-        Item::Command {
-            command,
-            from: _,
-            to: _,
-        } => command_sign(command),
-        Item::Broken(_) => 0,
+        Item::Command { command, .. } => command_sign(command),
+        _ => 0,
     }
 }
 
@@ -151,15 +115,8 @@ fn value_size(i: Item) -> usize
     ensures { result ≡ value_size i }
 {
     match i {
-        Item::Text(_) => 0,
-        Item::Code(_) => 0,
-        Item::Two(_) => 0,
-        Item::Command {
-            command,
-            from: _,
-            to: _,
-        } => command_size(command),
-        Item::Broken(_) => 0,
+        Item::Command { command, .. } => command_size(command),
+        _ => 0,
     }
 }
 
@@ -168,15 +125,8 @@ fn payload_from(i: Item) -> usize
     ensures { result ≡ payload_from i }
 {
     match i {
-        Item::Text(_) => 0,
-        Item::Code(_) => 0,
-        Item::Two(_) => 0,
-        Item::Command {
-            command: _,
-            from,
-            to: _,
-        } => from,
-        Item::Broken(_) => 0,
+        Item::Command { from, .. } => from,
+        _ => 0,
     }
 }
 
@@ -185,15 +135,8 @@ fn payload_to(i: Item) -> usize
     ensures { result ≡ payload_to i }
 {
     match i {
-        Item::Text(_) => 0,
-        Item::Code(_) => 0,
-        Item::Two(_) => 0,
-        Item::Command {
-            command: _,
-            from: _,
-            to,
-        } => to,
-        Item::Broken(_) => 0,
+        Item::Command { to, .. } => to,
+        _ => 0,
     }
 }
 
@@ -203,7 +146,7 @@ fn first_of(q: Sequence) -> usize
 {
     match q {
         Sequence::Closed => 0,
-        Sequence::Open { first, group: _ } => first as usize,
+        Sequence::Open { first, .. } => usize::from(first),
     }
 }
 
@@ -213,7 +156,7 @@ fn group_of(q: Sequence) -> usize
 {
     match q {
         Sequence::Closed => 0,
-        Sequence::Open { first: _, group } => group as usize,
+        Sequence::Open { group, .. } => usize::from(group),
     }
 }
 
@@ -221,31 +164,15 @@ fn group_of(q: Sequence) -> usize
 pub fn field_of(r: ReadItem, n: u8) -> usize
     ensures { result ≡ field r n }
 {
-    let item = r.item;
-    let sequence = r.sequence;
-    if n == 0 {
-        return item_number(item);
+    match n {
+        0 => item_number(r.item),
+        1 => r.next,
+        2 => first_of(r.sequence),
+        3 => group_of(r.sequence),
+        4 => detail_of(r.item),
+        5 => value_sign(r.item),
+        6 => value_size(r.item),
+        7 => payload_from(r.item),
+        _ => payload_to(r.item),
     }
-    if n == 1 {
-        return r.next;
-    }
-    if n == 2 {
-        return first_of(sequence);
-    }
-    if n == 3 {
-        return group_of(sequence);
-    }
-    if n == 4 {
-        return detail_of(item);
-    }
-    if n == 5 {
-        return value_sign(item);
-    }
-    if n == 6 {
-        return value_size(item);
-    }
-    if n == 7 {
-        return payload_from(item);
-    }
-    payload_to(item)
 }

@@ -2,27 +2,14 @@
 use mathlib.Core.Path.{◌≡◌, ap, sym, ◌∙◌}
 use mathlib.Core.List.{List}
 use Prim.Native.Nat.{ℕ}
-use lib.Seq.{sets}
 use Rattle.common.specs.Choice.{flagged}
-use Rattle.rules.specs.declared.Refusal.{Refusal}
-use Rattle.rules.specs.declared.Verdict.TheVariants.{Carried, Refused}
 use Rattle.rules.specs.declared.State.{State}
-use Rattle.rules.specs.Findings.{refusal_number, verdict_number}
+use Rattle.rules.specs.Findings.{verdict_number}
 use Rattle.rules.specs.Run.{answer}
-use Rattle.state_load.specs.Kept.{state_at, state_bytes, bytes_behind}
+use Rattle.state_load.specs.Kept.{state_at, bytes_behind}
 use Rattle.report_laws.proofs.Whole.{held_once}
-use Rattle.pages_step.specs.declared.Sheet.{Sheet}
-use Rattle.pages_step.specs.Steps.{step_items, sheet_of, Stepped}
+use Rattle.pages_step.specs.Steps.{Sheet, step_items, sheet_of, Stepped}
 use Rattle.leaf_step.specs.Told.{Kept, ToldStep, OneToldStep}
-
-module _ (r : Sheet) (b : List ℕ) where
-  -- a step that was carried out
-  pub kept_carried : (after : List ℕ) → r.verdict ≡ Carried → after ≡ sets b 0 (state_bytes r.state) → Kept r b 0 after
-  kept_carried after f k = record { number = rw f; bytes = rw f k }
-
-  -- one that was refused
-  pub kept_refused : (n : ℕ) (why : Refusal) → r.verdict ≡ Refused why → n ≡ refusal_number why → Kept r b n b
-  kept_refused n why f k = record { number = rw f k; bytes = rw f }
 
 -- a step told
 pub told_step : (W H : ℕ) (page s state : List ℕ) (place number findings : ℕ) (room : List ℕ) (n : ℕ) (page' state' room' : List ℕ) (has over : ℕ) (t : State) (r : Sheet) → t ≡ state_at state

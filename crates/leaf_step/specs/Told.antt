@@ -7,8 +7,7 @@ use Rattle.rules.specs.Run.{Outcome, answer}
 use Rattle.rules.specs.Report.{counted}
 use Rattle.state_load.specs.Kept.{state_at, bytes_behind}
 use Rattle.pages_open.specs.Opening.{longest_lines}
-use Rattle.pages_step.specs.declared.Sheet.{Sheet}
-use Rattle.pages_step.specs.Steps.{step_items, is_over, has_page, step_lines}
+use Rattle.pages_step.specs.Steps.{Sheet, step_items, is_over, has_page, step_lines}
 
 -- of a step that gave r: the number, and the state's bytes
 pub record Kept (r : Sheet) (b : List ℕ) (n : ℕ) (after : List ℕ) : Type 0 where

@@ -3,29 +3,11 @@
 #![tactic(auto)]
 
 ghost use Rattle.std.specs.Prelude.{◌≤◌, length};
-ghost use Rattle.leaf_step.specs.Told.{Kept, ToldStep};
+ghost use Rattle.leaf_step.specs.Told.{ToldStep};
 
-use common::flag;
 use number_finding::refusal_number;
-use pages_step::Sheet;
-use rules::Verdict;
 use state_load::read_state;
 use state_save::write_state;
-
-// The state behind a step, written back where it was carried out; the refusal's number, 0 for none.
-fn give_back(r: Sheet, state: &mut [u8]) -> u32
-    ensures { Kept r state.old result state.new }
-{
-    let verdict = r.verdict;
-    match verdict {
-        Verdict::Carried => {
-            let t = r.state;
-            write_state(t, state);
-            0
-        }
-        Verdict::Refused(why) => refusal_number(why),
-    }
-}
 
 // One step, from *place on. The page is the caller's between calls, so none of its bytes are known to be zero. What `pages_step::next` asks is asked here.
 #[unsafe(no_mangle)]
@@ -47,15 +29,26 @@ pub extern "C" fn rov_step(
     ensures { ToldStep w h page.old stream.now state.old place.old number.old findings.old room.old result page.new state.new place.new number.new findings.new room.new end.new paged.new over.new }
 {
     let t = read_state(state);
-    let mut zeros: usize = 0;
-    let r = pages_step::next(
+    let mut zeros = 0;
+    let step = pages_step::next(
         page, w, h, stream, t, *place, *number, *findings, &mut zeros, room,
     );
-    *place = r.place;
-    *number = r.number;
-    *findings = r.findings;
-    *end = r.end;
-    *paged = flag(r.paged);
-    *over = flag(r.over);
-    give_back(r, state)
+    match step {
+        Ok(r) => {
+            *place = r.place;
+            *number = r.number;
+            *findings = r.findings;
+            *end = r.end;
+            *paged = usize::from(r.paged);
+            *over = usize::from(r.over);
+            write_state(r.state, state);
+            0
+        }
+        Err(why) => {
+            *end = 0;
+            *paged = 0;
+            *over = 1;
+            refusal_number(why)
+        }
+    }
 }

@@ -1,6 +1,7 @@
 -- A word read digit by digit. Assumes nothing.
 use mathlib.Core.Path.{◌≡◌, refl}
 use mathlib.Core.List.{List}
+use mathlib.Core.Logic.{◌⊎◌, ⊎_elim}
 use Prim.Native.Nat.{ℕ, ◌+◌, ◌≤◌, ◌<◌}
 use native.Mathlib.Omega.{arith}
 use lib.ListN.{length, drop, get_or, drop_of_length-le}
@@ -25,13 +26,9 @@ module _ (most : ℕ) (word : List ℕ) (i n : ℕ) (h : Reads most word i n) wh
 
   module _ (l : i < length word) where
     -- no digit
-    pub reads_under : get_or word i 0 < 48 → 0 ≡ amount_word most word
+    pub reads_no : (get_or word i 0 < 48) ⊎ (57 < get_or word i 0) → 0 ≡ amount_word most word
     unfolding digits_from
-    reads_under u = rw (cut word i l, within_under 48 57 (get_or word i 0) u) at h.same
-
-    pub reads_over : 57 < get_or word i 0 → 0 ≡ amount_word most word
-    unfolding digits_from
-    reads_over u = rw (cut word i l, within_over 48 57 (get_or word i 0) u) at h.same
+    reads_no u = rw (cut word i l, ⊎_elim (within_under 48 57 (get_or word i 0)) (within_over 48 57 (get_or word i 0)) u) at h.same
 
     -- a digit
     pub reads_more : 48 ≤ get_or word i 0 → get_or word i 0 ≤ 57 → (m : ℕ) → m ≡ one_digit most n (get_or word i 0) → m ≤ most → Reads most word (i + 1) m

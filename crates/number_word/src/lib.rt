@@ -10,8 +10,7 @@ fn one_digit(n: usize, b: u8, most: usize) -> usize
     requires { (n ≤ most) × (most ≤ 10000000) × (48 ≤ b) }
     ensures { (result ≡ one_digit most n b) × (result ≤ most) }
 {
-    let m = n * 10 + ((b - 48) as usize);
-    if m < most { m } else { most }
+    (n * 10 + usize::from(b - b'0')).min(most)
 }
 
 // The number that a word spells in decimal, and 0 where it spells none.
@@ -19,18 +18,12 @@ fn amount_of_word(word: &[u8], most: usize) -> usize
     requires { most ≤ 10000000 }
     ensures { result ≡ amount_word most word.now }
 {
-    let mut n: usize = 0;
-    let mut i: usize = 0;
-    while i < word.len() {
-        let b = word[i];
-        if b < 48 {
+    let mut n = 0;
+    for b in word {
+        if !b.is_ascii_digit() {
             return 0;
         }
-        if 57 < b {
-            return 0;
-        }
-        n = one_digit(n, b, most);
-        i += 1;
+        n = one_digit(n, *b, most);
     }
     n
 }

@@ -1,45 +1,54 @@
 -- The places behind a point, one by one. Assumes nothing.
-use mathlib.Core.Path.{◌≡◌, refl, ap}
-use mathlib.Core.List.{List, ◌∷◌}
-use Prim.Native.Nat.{ℕ, zero, suc, ◌+◌, ◌-◌, ◌*◌, ◌/◌, ◌%◌, ◌^◌, ◌≤◌, ◌<◌}
-use native.Mathlib.Omega.{arith}
-use native.Mathlib.Nat.{pow-suc, one-le-pow, mod-lt}
-use borrow.Author.Tests.{eq-eqb, ne_eqb}
+use Rattle.std.proofs.Common.{◌≡◌, refl, ℕ, zero, suc, ◌+◌, ◌-◌, ◌*◌, ◌/◌, ◌%◌, ◌^◌, ◌≤◌, ◌<◌, List, [], ◌∷◌, get_or, arith, eq-eqb, ne_eqb}
 use Rattle.rules.specs.Plain.{places_up_to}
 
--- the first of so many places has the weight, and the number fits them
-pub record Weighed (places weight n : ℕ) : Type 0 where
-  pub is : weight ≡ 10 ^ places / 10
-  pub low : n < 10 ^ places
-  pub under : n ≤ 10 * weight - 1
+-- the weights of the places
+abbrev pub weights : List ℕ
+weights = 1000 ∷ 100 ∷ 10 ∷ 1 ∷ []
 
--- its number is below ten times the weight, or 0 where no place is left
-pub weighed : (places weight n : ℕ) → weight ≡ 10 ^ places / 10 → n < 10 ^ places → Weighed places weight n
-weighed zero weight n e h = record { is = e; low = h; under = omega arith }
-weighed (suc k) weight n e h = let p = pow-suc 10 k in record { is = e; low = h; under = omega arith }
+-- of n the places from the k-th on
+abbrev pub places_from : ℕ → ℕ → List ℕ
+places_from k n = places_up_to (4 - k) (get_or weights k 0) n []
 
--- a number that is not 0 has a place, and the rest of it fits those behind
-pub record Place (places weight n : ℕ) : Type 0 where
-  pub less : ℕ
-  pub is : places ≡ suc less
-  pub behind : Weighed less (weight / 10) (n % weight)
+-- n fits the places from the k-th on
+abbrev pub Low : ℕ → ℕ → Type 0
+Low k n = n < 10 ^ (4 - k)
 
--- it has
-pub place : (places weight n : ℕ) → Weighed places weight n → 0 < n → Place places weight n
-place zero weight n w h = absurd (omega (arith, w.low))
-place (suc k) weight n w h =
-    let p = pow-suc 10 k in
-    let e : weight ≡ 10 ^ k = omega (arith, w.is) in
-    let z : 0 < weight = omega (arith, one-le-pow k 10 (omega arith)) in
-    record { less = k; is = refl; behind = weighed k (weight / 10) (n % weight) (ap (λ (m : ℕ). m / 10) e) (omega (arith, mod-lt n z)) }
-
--- of 0 no places are written
-pub places_none : (k weight n : ℕ) (s : List ℕ) → n ≤ 0 → places_up_to k weight n s ≡ s
+-- of 0 none is written
+pub places_none : (k n : ℕ) → k ≤ 4 → n ≡ 0 → places_from k n ≡ []
 unfolding places_up_to
-places_none zero weight n s h = refl
-places_none (suc k) weight n s h = rw (eq-eqb n 0 (omega arith))
+places_none zero n h e = rw (eq-eqb n 0 e)
+places_none (suc zero) n h e = rw (eq-eqb n 0 e)
+places_none (suc (suc zero)) n h e = rw (eq-eqb n 0 e)
+places_none (suc (suc (suc zero))) n h e = rw (eq-eqb n 0 e)
+places_none (suc (suc (suc (suc zero)))) n h e = refl
+places_none (suc (suc (suc (suc (suc k))))) n h e = absurd (omega (arith, h))
 
 -- of any other number the first, and then those behind it
-pub places_some : (places k weight n : ℕ) (s : List ℕ) → places ≡ suc k → 0 < n → places_up_to places weight n s ≡ (48 + n / weight) ∷ places_up_to k (weight / 10) (n % weight) s
+pub places_some : (k n : ℕ) → k < 4 → (n ≡ 0 → ⊥) → places_from k n ≡ (48 + n / get_or weights k 0) ∷ places_from (k + 1) (n % get_or weights k 0)
 unfolding places_up_to
-places_some places k weight n s e h = rw (e, ne_eqb n 0 (λ z. omega arith))
+places_some zero n h z = rw (ne_eqb n 0 z)
+places_some (suc zero) n h z = rw (ne_eqb n 0 z)
+places_some (suc (suc zero)) n h z = rw (ne_eqb n 0 z)
+places_some (suc (suc (suc zero))) n h z = rw (ne_eqb n 0 z)
+places_some (suc (suc (suc (suc k)))) n h z = absurd (omega (arith, h))
+
+-- its first place is a digit
+pub low_first : (k n : ℕ) → k < 4 → Low k n → n < 10 * get_or weights k 0
+low_first zero n h l = omega (arith, l)
+low_first (suc zero) n h l = omega (arith, l)
+low_first (suc (suc zero)) n h l = omega (arith, l)
+low_first (suc (suc (suc zero))) n h l = omega (arith, l)
+low_first (suc (suc (suc (suc k)))) n h l = absurd (omega (arith, h))
+
+-- and the rest of it fits those behind
+pub low_behind : (k n : ℕ) → k < 4 → Low (k + 1) (n % get_or weights k 0)
+low_behind zero n h = omega arith
+low_behind (suc zero) n h = omega arith
+low_behind (suc (suc zero)) n h = omega arith
+low_behind (suc (suc (suc zero))) n h = omega arith
+low_behind (suc (suc (suc (suc k)))) n h = absurd (omega (arith, h))
+
+-- with no place left nothing is
+pub low_end : (k n : ℕ) → 4 ≤ k → k ≤ 4 → Low k n → n ≡ 0
+low_end k n a b l = let e : k ≡ 4 = omega arith in let h : n < 1 = rw e at l in omega arith

@@ -2,28 +2,17 @@
 // Nothing is refused: what has no room is not written.
 #![tactic(auto)]
 
-ghost use Rattle.std.specs.Prelude.{◌≡◌, cond, [], ◌∷◌, ◌+◌, ◌*◌, ◌/◌, ◌≤◌, ◌<◌, length, drop};
-ghost use Rattle.common.specs.Stores.{Wrote};
+ghost use Rattle.std.specs.Prelude.{◌≡◌, cond, [], ◌+◌, ◌*◌, ◌/◌, ◌≤◌, ◌<◌, drop};
+ghost use Rattle.common.specs.Writing.{Written};
 ghost use Rattle.rules.specs.Plain.{decimal, places_up_to, put_size, put_value};
 
-use common::least;
+use common::Writer;
 use rules::Value;
 
-// One byte into the room, where there is room for it.
-pub fn put_byte(b: u8, room: &mut [u8], at: usize) -> usize
-    ensures { Wrote room.old at (b ∷ []) room.new result }
-{
-    if at < room.len() {
-        room[at] = b;
-        return at + 1;
-    }
-    room.len()
-}
-
-// The digits of a number, with no leading zeros, at the end of twenty bytes, the last first: where they begin.
+// The digits of a number, with no leading zeros, at the end of twenty bytes: where they begin.
+// They come the last first, until one is left, so that the loop goes by the number.
 fn fill_digits(n: usize, digits: &mut [u8; 20]) -> usize
-    requires { length digits.old ≡ 20 }
-    ensures { (drop result digits.new ≡ decimal n []) × (result ≤ 20) × (length digits.new ≡ 20) }
+    ensures { (drop result digits.new ≡ decimal n []) × (result ≤ 20) }
 {
     let mut left = n;
     let mut i: usize = 19;
@@ -37,17 +26,12 @@ fn fill_digits(n: usize, digits: &mut [u8; 20]) -> usize
 }
 
 // A number in decimal, with no leading zeros.
-pub fn write_decimal(n: usize, room: &mut [u8], at: usize) -> usize
-    ensures { Wrote room.old at (decimal n []) room.new result }
+pub fn write_decimal(n: usize, out: &mut Writer)
+    ensures { Written out.old (decimal n []) out.new }
 {
     let mut digits = [48u8; 20];
-    let mut i = fill_digits(n, &mut digits);
-    let mut next = least(at, room.len());
-    while i < 20 {
-        next = put_byte(digits[i], room, next);
-        i += 1;
-    }
-    next
+    let first = fill_digits(n, &mut digits);
+    out.put_all(&digits[first..]);
 }
 
 // The first place of a number below ten times its weight.
@@ -58,34 +42,32 @@ fn first_place(n: u32, weight: u32) -> u8
     (48 + n / weight) as u8
 }
 
-// The places behind a point, with no trailing zeros.
-fn write_places(n: u32, room: &mut [u8], at: usize) -> usize
-    requires n_bound { n < 10000 }
-    requires at_in_bounds { at ≤ length room.old }
-    ensures { Wrote room.old at (places_up_to 4 1000 n []) room.new result }
+// The places behind a point, with no trailing zeros: none where nothing is left.
+fn write_places(n: u32, out: &mut Writer)
+    requires { n < 10000 }
+    ensures { Written out.old (places_up_to 4 1000 n []) out.new }
 {
     let mut left = n;
-    let mut unit: u32 = 1000;
-    let mut next = at;
-    while 0 < left {
-        next = put_byte(first_place(left, unit), room, next);
-        left = left % unit;
-        unit = unit / 10;
+    for unit in [1000, 100, 10, 1] {
+        if left == 0 {
+            return;
+        }
+        out.put(first_place(left, unit));
+        left %= unit;
     }
-    next
 }
 
 // A size, with a point only where places follow.
-fn write_size(n: u32, room: &mut [u8], at: usize) -> usize
-    ensures { Wrote room.old at (put_size n []) room.new result }
+fn write_size(n: u32, out: &mut Writer)
+    ensures { Written out.old (put_size n []) out.new }
 {
-    let whole = write_decimal((n / 10000) as usize, room, at);
+    write_decimal((n / 10000) as usize, out);
     let part = n % 10000;
     if part == 0 {
-        return whole;
+        return;
     }
-    let point = put_byte(b'.', room, whole);
-    write_places(part, room, point)
+    out.put(b'.');
+    write_places(part, out);
 }
 
 // The byte that makes a value relative.
@@ -96,14 +78,14 @@ fn sign(negative: bool) -> u8
 }
 
 // A value as the plain stream has it: a relative one with its sign.
-pub fn write_value(v: Value, room: &mut [u8], at: usize) -> usize
-    ensures { Wrote room.old at (put_value v []) room.new result }
+pub fn write_value(v: Value, out: &mut Writer)
+    ensures { Written out.old (put_value v []) out.new }
 {
     match v {
-        Value::Absolute(n) => write_size(n, room, at),
+        Value::Absolute(n) => write_size(n, out),
         Value::Relative { negative, size } => {
-            let behind = put_byte(sign(negative), room, at);
-            write_size(size, room, behind)
+            out.put(sign(negative));
+            write_size(size, out);
         }
     }
 }

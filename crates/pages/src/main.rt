@@ -8,39 +8,13 @@
 
 ghost use Rattle.std.specs.Prelude.{◌≡◌, true, ◌≤◌, length};
 ghost use Rattle.rules.specs.Measure.{allowed, measure_of, page_bytes, longest_stream};
-ghost use Rattle.rules.specs.States.{afresh};
 ghost use Rattle.pages_open.specs.Opening.{longest_lines};
 
-use given::Given;
-use rules::{State, Verdict};
+use common::Writer;
+use state_afresh::afresh_on;
+use std::io;
 
-// A place for the largest page, 4,800 by 6,800 dots.
-fn largest_page() -> [u8; 4080000]
-    ensures { 4080000 ≡ length result }
-{
-    [0u8; 4080000]
-}
-
-// The state before the first step.
-fn first_state(w: usize, h: usize) -> State
-    requires { allowed w h ≡ true }
-    ensures { result ≡ afresh (measure_of w h) }
-{
-    state_afresh::afresh(state_page::measure_of(w, h))
-}
-
-// A page behind its head, if there is one to be written; whether all of it was.
-fn write_page(out: &impl Print, paged: bool, head: &[u8], page: &[u8]) -> bool {
-    if !paged {
-        return true;
-    }
-    if out.write_all(head).is_err() {
-        return false;
-    }
-    out.write_all(page).is_ok()
-}
-
-// What a step gave, the page before the lines that tell of it; whether all of it was written.
+// What a step gave, the page behind its head, if there is one to be written, before the lines that tell of it.
 fn write_step(
     out: &impl Print,
     err: &impl Print,
@@ -48,33 +22,27 @@ fn write_step(
     head: &[u8],
     page: &[u8],
     lines: &[u8],
-) -> bool {
-    if !write_page(out, paged, head, page) {
-        return false;
+) -> io::Result<()> {
+    if paged {
+        out.write_all(head)?;
+        out.write_all(page)?;
     }
-    err.write_all(lines).is_ok()
+    err.write_all(lines)
 }
 
-// The line AT behind a page, if it is asked for; whether it was written. Its room is for the word, a tab, twenty digits and LF.
-fn write_at(err: &impl Print, asked: bool, paged: bool, place: usize) -> bool {
-    if !asked || !paged {
-        return true;
-    }
+// The line AT behind a page, if it is asked for. Its room is for the word, a tab, twenty digits and LF.
+fn write_at(err: &impl Print, place: usize) -> io::Result<()> {
     let mut room = [0u8; 24];
-    let word = report_line::write_word(b"AT", &mut room, 0);
-    let end = report_line::write_last_field(place, &mut room, word);
-    err.write_all(&room[..end]).is_ok()
+    let mut out = Writer {
+        room: &mut room,
+        at: 0,
+    };
+    report_line::write_line(b"AT", &[place], &mut out);
+    let end = out.at;
+    err.write_all(&room[..end])
 }
 
-// Where a step is refused. It is asked for a step that was carried out, which is never so where it is called: so the proof of the loop shows that it never
-// comes to this. On a job that is allowed every step is carried out.
-fn refused_step(verdict: Verdict) -> bool
-    requires { verdict ≡ Verdict.Carried }
-{
-    false
-}
-
-// Step after step, until the job is over or a write fails; whether all was written.
+// Step after step, until the job is over or a write fails. On a job that is allowed no step is refused.
 fn write_steps(
     out: &impl Print,
     err: &impl Print,
@@ -85,13 +53,13 @@ fn write_steps(
     head: &[u8],
     room: &mut [u8],
     asked: bool,
-) -> bool
+) -> io::Result<()>
     requires h_value { allowed w h ≡ true }
     requires page_len { length page.old ≡ page_bytes (measure_of w h) }
     requires s_len_bound { length s.now ≤ longest_stream }
     requires longest_lines_in_bounds { longest_lines ≤ length room.old }
 {
-    let mut state = first_state(w, h);
+    let mut state = afresh_on(w, h);
     let mut place: usize = 0;
     let mut number: usize = 1;
     let mut findings: usize = 0;
@@ -100,29 +68,22 @@ fn write_steps(
         let r = pages_step::next(
             page, w, h, s, state, place, number, findings, &mut zeros, room,
         );
-        let verdict = r.verdict;
-        let Verdict::Carried = verdict else {
-            return refused_step(verdict);
-        };
-        let end = r.end;
-        if !write_step(out, err, r.paged, head, page, &room[..end]) {
-            return false;
+        let step = r.unwrap();
+        write_step(out, err, step.paged, head, page, &room[..step.end])?;
+        if step.over {
+            return Ok(());
         }
-        if r.over {
-            return true;
+        if asked && step.paged {
+            write_at(err, step.place)?;
         }
-        if !write_at(err, asked, r.paged, r.place) {
-            return false;
-        }
-        let t = r.state;
-        state = t;
-        place = r.place;
-        number = r.number;
-        findings = r.findings;
+        state = step.state;
+        place = step.place;
+        number = step.number;
+        findings = step.findings;
     }
 }
 
-// The pages of a job on a page of w by h dots; whether all was written.
+// The pages of a job on a page of w by h dots.
 fn write_pages(
     out: &impl Print,
     err: &impl Print,
@@ -132,17 +93,17 @@ fn write_pages(
     head: &[u8],
     room: &mut [u8],
     asked: bool,
-) -> bool
+) -> io::Result<()>
     requires h_value { allowed w h ≡ true }
     requires s_len_bound { length s.now ≤ longest_stream }
     requires longest_lines_in_bounds { longest_lines ≤ length room.old }
 {
-    let mut page = largest_page();
+    let mut page = given::largest_page();
     let bytes = h * (w / 8);
     write_steps(out, err, &mut page[..bytes], w, h, s, head, room, asked)
 }
 
-// The first lines of a job, and its pages if it is not refused; whether all was written.
+// The first lines of a job, and its pages if it is not refused.
 fn write_job(
     out: &impl Print,
     err: &impl Print,
@@ -150,15 +111,12 @@ fn write_job(
     h: usize,
     s: &[u8],
     asked: bool,
-) -> bool {
+) -> io::Result<()> {
     let mut room = [0u8; 184];
     let first = pages_open::begin(w, h, s, &mut room);
-    let end = first.end;
-    if err.write_all(&room[..end]).is_err() {
-        return false;
-    }
+    err.write_all(&room[..first.end])?;
     if first.refused {
-        return true;
+        return Ok(());
     }
     let mut head = [0u8; 45];
     let head_end = pages_open::write_head(w, h, &mut head);
@@ -171,11 +129,7 @@ fn main(rt: HostRuntime) {
     let h = given::measure_word(&rt, 2, 3304);
     let asked = given::measure_word(&rt, 3, 0) != 0;
     let mut input = given::longest_input();
-    let Given::Job(n) = given::read_job(&mut rt.stdin(), &mut input) else {
-        let _ = err.write_all(b"UNREAD\n");
-        return;
-    };
-    if !write_job(&rt.stdout(), &err, w, h, &input[..n], asked) {
-        let _ = err.write_all(b"UNWRITTEN\n");
-    }
+    given::answer(&mut rt.stdin(), &err, &mut input, |job| {
+        write_job(&rt.stdout(), &err, w, h, job, asked)
+    });
 }

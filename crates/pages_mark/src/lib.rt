@@ -3,25 +3,26 @@
 #![tactic(auto)]
 
 ghost use Rattle.std.specs.Prelude.{[]};
-ghost use Rattle.common.specs.Stores.{Wrote};
+ghost use Rattle.common.specs.Writing.{Written};
 ghost use Rattle.pages_mark.specs.Marks.{marked};
 ghost use Rattle.rules.specs.Report.{told};
 
-use number_finding::finding_number;
+use common::Writer;
+use number_finding::{finding_number, is_clean};
 use report_fault::write_fault;
-use report_line::write_four;
+use report_line::write_line;
 use rules::{Finding, Spot};
 
 // FAULT, place, number; MARK, place, number, x, y. Nothing where all is well.
-pub fn write_marked(place: usize, f: Finding, began: Spot, room: &mut [u8], at: usize) -> usize
-    ensures { Wrote room.old at (told marked began place f []) room.new result }
+pub fn write_marked(place: usize, f: Finding, began: Spot, out: &mut Writer)
+    ensures { Written out.old (told marked began place f []) out.new }
 {
-    let behind = write_fault(place, f, room, at);
-    let n = finding_number(f) as usize;
-    if n == 0 {
-        return behind;
+    write_fault(place, f, out);
+    if is_clean(f) {
+        return;
     }
+    let n = finding_number(f) as usize;
     let x = began.x as usize;
     let y = began.y as usize;
-    write_four(b"MARK", place, n, x, y, room, behind)
+    write_line(b"MARK", &[place, n, x, y], out);
 }

@@ -1,24 +1,19 @@
 -- What is written before the pages of a job, and that the room is always large enough. Assumes nothing.
-use mathlib.Core.Path.{◌≡◌, sym, ◌∙◌, ap}
-use Prim.Native.Nat.{ℕ, ◌+◌, ◌≤◌, ◌<◌}
-use native.Mathlib.Omega.{arith}
-use mathlib.Core.List.{List, [], ◌∷◌}
-use mathlib.Core.Bool.{Bool, true, false, not}
-use lib.ListN.{length}
-use borrow.Author.Tests.{lt-ltb, le-ltb}
+use Rattle.std.proofs.Common.{◌≡◌, refl, sym, ◌∙◌, ℕ, ◌+◌, ◌≤◌, arith, List, [], ◌∷◌, Bool, true, false, cond, not, ◌||◌, length, Option, Some, None, is_some}
+use Rattle.common.specs.declared.writer.Writer.{Writer}
 use Rattle.common.specs.Stores.{Wrote, Holds}
+use Rattle.common.specs.Writing.{Written}
 use Rattle.common.proofs.Choices.{choice}
-use Rattle.common.proofs.Stores.{wrote_both}
+use Rattle.common.proofs.Writing.{written_both}
 use Rattle.rules.specs.declared.Refusal.{Refusal}
 use Rattle.rules.specs.declared.Refusal.TheVariants.{PageMeasure, StreamLength}
-use Rattle.rules.specs.Measure.{allowed, longest_stream, is_too_long}
+use Rattle.rules.specs.Measure.{allowed, is_too_long}
 use Rattle.rules.specs.Plain.{decimal}
 use Rattle.rules.specs.Report.{fields, line, SIZE, refused_line}
 use Rattle.number_write.proofs.Laws.{decimal_append, decimal_short}
-use Rattle.report_line.proofs.Texts.{line_append}
 use Rattle.report_laws.proofs.Bound.{number_length, two_length, refused_most}
 use Rattle.report_laws.proofs.Whole.{held, held_once}
-use Rattle.pages_open.specs.Opening.{longest_head, longest_lines, pbm_head, first_lines, Begins, OneHead, OneOpening}
+use Rattle.pages_open.specs.Opening.{longest_head, longest_lines, pbm_head, first_lines, job_refused, refusal_line, refusal_of, Begins, OneHead, OneOpening}
 
 -- ---- how long
 -- two numbers of at most twenty digits
@@ -44,35 +39,35 @@ first_most W H s = choice (λ l. length (line SIZE (W ∷ H ∷ []) l) ≤ longe
 
 -- ---- what is written
 -- a head, piece by piece
-pub wrote_head : {l l1 l2 l3 l4 l5 : List ℕ} {a b c d r : ℕ} (W H : ℕ) → Wrote l 0 (80 ∷ 52 ∷ 10 ∷ []) l1 a → Wrote l1 a (decimal W []) l2 b → Wrote l2 b (32 ∷ []) l3 c
-    → Wrote l3 c (decimal H []) l4 d → Wrote l4 d (10 ∷ []) l5 r → Holds longest_head (pbm_head W H) l l5 r
-wrote_head W H p q s t u =
-    held (head_most W H)
-    (rw (decimal_append W [] (32 ∷ decimal H (10 ∷ []))) (wrote_both p (wrote_both q (wrote_both s (rw (decimal_append H [] (10 ∷ [])) (wrote_both t u))))))
+pub wrote_head : {a b c d e f : Writer} (W H : ℕ) → Written a (80 ∷ 52 ∷ 10 ∷ []) b → Written b (decimal W []) c → Written c (32 ∷ []) d → Written d (decimal H []) e
+    → Written e (10 ∷ []) f → Written a (pbm_head W H) f
+wrote_head {b = b} {d = d} {f = f} W H p q s t u =
+    let h : Written d (decimal H (10 ∷ [])) f = rw (decimal_append H [] (10 ∷ [])) (written_both t u) in
+    let w : Written b (decimal W (32 ∷ decimal H (10 ∷ []))) f = rw (decimal_append W [] (32 ∷ decimal H (10 ∷ []))) (written_both q (written_both s h)) in
+    written_both p w
 
-module _ {room room1 : List ℕ} {a : ℕ} (W H : ℕ) (s : List ℕ) (size : Wrote room 0 (line SIZE (W ∷ H ∷ []) []) room1 a) (b : Bool) (told : b ≡ allowed W H) where
-  -- a text behind SIZE
-  behind_size : {room2 : List ℕ} {r : ℕ} (text : List ℕ) → first_lines W H s ≡ line SIZE (W ∷ H ∷ []) text → Wrote room1 a text room2 r → Holds longest_lines (first_lines W H s) room room2 r
-  behind_size text e w = held (first_most W H s) (rw (e, line_append SIZE (W ∷ H ∷ []) [] text) (wrote_both size w))
+-- it is there whole
+pub head_held : {room after : List ℕ} {r : ℕ} (W H : ℕ) → Wrote room 0 (pbm_head W H) after r → Holds longest_head (pbm_head W H) room after r
+head_held W H w = held (head_most W H) w
 
-  -- a measure that is not allowed
-  pub begins_no_page : {room2 : List ℕ} {r : ℕ} → not b ≡ true → Wrote room1 a (refused_line PageMeasure) room2 r → Begins W H s room (record { refused = true; end = r }) room2
-  begins_no_page e w = let f = ap not (sym told) ∙ e in record { refused = rw f; holds = behind_size (refused_line PageMeasure) (rw f) w }
+-- a job is refused where there is a reason, and its first lines tell that
+refused_by : (W H : ℕ) (s : List ℕ) → (is_some (refusal_of W H s) ≡ job_refused W H s) × (first_lines W H s ≡ line SIZE (W ∷ H ∷ []) (refusal_line (refusal_of W H s)))
+refused_by W H s = go (not (allowed W H)) (is_too_long s)
+  where
+    go : (a b : Bool)
+        → (is_some (cond a (Some PageMeasure) (cond b (Some StreamLength) None)) ≡ (a || b))
+        × (line SIZE (W ∷ H ∷ []) (cond a (refused_line PageMeasure) (cond b (refused_line StreamLength) []))
+        ≡ line SIZE (W ∷ H ∷ []) (refusal_line (cond a (Some PageMeasure) (cond b (Some StreamLength) None))))
+    go true b = (refl, refl)
+    go false true = (refl, refl)
+    go false false = (refl, refl)
 
-  -- a job that is too long
-  pub begins_too_long : {room2 : List ℕ} {r : ℕ} → not b ≡ false → longest_stream < length s → Wrote room1 a (refused_line StreamLength) room2 r
-      → Begins W H s room (record { refused = true; end = r }) room2
-  begins_too_long e h w =
-      let f = ap not (sym told) ∙ e in
-      let l = lt-ltb longest_stream (length s) h in
-      record { refused = rw (f, l); holds = behind_size (refused_line StreamLength) (rw (f, l)) w }
-
-  -- a job to be drawn
-  pub begins_taken : not b ≡ false → length s ≤ longest_stream → Begins W H s room (record { refused = false; end = a }) room1
-  begins_taken e h =
-      let f = ap not (sym told) ∙ e in
-      let l = le-ltb longest_stream (length s) h in
-      record { refused = rw (f, l); holds = held (first_most W H s) (rw (f, l) size) }
+-- SIZE, and what there is to refuse
+pub begins : {room after : List ℕ} {r : ℕ} {t : Bool} (W H : ℕ) (s : List ℕ) (o : Option Refusal) → o ≡ refusal_of W H s → t ≡ is_some o
+    → Wrote room 0 (line SIZE (W ∷ H ∷ []) (refusal_line o)) after r → Begins W H s room (record { refused = t; end = r }) after
+begins W H s o e f w =
+    let k = refused_by W H s in
+    record { refused = f ∙ rw e k.0; holds = held (first_most W H s) (rw (k.1, ← e) w) }
 
 -- ---- one outcome
 pub one_head : OneHead

@@ -2,47 +2,70 @@
 // Both are written into a room that is lent: what has no room is not written.
 #![tactic(auto)]
 
+ghost use Rattle.std.specs.Prelude.{◌≡◌, [], ◌∷◌};
 ghost use Rattle.common.specs.Stores.{Holds};
-ghost use Rattle.pages_open.specs.Opening.{Begins, pbm_head, longest_head};
+ghost use Rattle.common.specs.Writing.{Written};
+ghost use Rattle.pages_open.specs.Opening.{Begins, pbm_head, longest_head, refusal_line, refusal_of};
+ghost use Rattle.rules.specs.Report.{line, SIZE};
 
-use number_write::{put_byte, write_decimal};
+use common::Writer;
+use number_write::write_decimal;
 use report_fault::{write_refused, write_size};
-use report_line::write_word;
+use report_verdict::Saying;
 use rules::{LONGEST_STREAM, Refusal};
 
-// Whether a job is refused, and where its first lines end in the room.
-#[derive(Drop)]
-pub struct Beginning {
-    pub refused: bool,
-    pub end: usize,
+// The head of a page of w by h dots: P4, width, height.
+fn write_pbm(w: usize, h: usize, out: &mut Writer)
+    ensures { Written out.old (pbm_head w h) out.new }
+{
+    out.put_all(b"P4\n");
+    write_decimal(w, out);
+    out.put(b' ');
+    write_decimal(h, out);
+    out.put(b'\n');
 }
 
-// The head of a page of w by h dots: P4, width, height.
+// That head, from the start of the room on.
 pub fn write_head(w: usize, h: usize, room: &mut [u8]) -> usize
     ensures { Holds longest_head (pbm_head w h) room.old room.new result }
 {
-    let magic = write_word(b"P4\n", room, 0);
-    let width = write_decimal(w, room, magic);
-    let space = put_byte(b' ', room, width);
-    let height = write_decimal(h, room, space);
-    put_byte(b'\n', room, height)
+    let mut out = Writer { room, at: 0 };
+    write_pbm(w, h, &mut out);
+    out.at
 }
 
-// The lines before the first step: SIZE, and REFUSED where the measure is not allowed or the job too long.
-pub fn begin(w: usize, h: usize, s: &[u8], room: &mut [u8]) -> Beginning
-    ensures { Begins w h s.now room.old result room.new }
+// Why a job is refused before its first step: its measure is not allowed, or it is too long.
+fn refusal_of(w: usize, h: usize, s: &[u8]) -> Option<Refusal>
+    ensures { result ≡ refusal_of w h s.now }
 {
-    let size = write_size(w, h, room, 0);
     if !state_page::allowed(w, h) {
-        let end = write_refused(Refusal::PageMeasure, room, size);
-        return Beginning { refused: true, end };
+        return Some(Refusal::PageMeasure);
     }
     if LONGEST_STREAM < s.len() {
-        let end = write_refused(Refusal::StreamLength, room, size);
-        return Beginning { refused: true, end };
+        return Some(Refusal::StreamLength);
     }
-    Beginning {
-        refused: false,
-        end: size,
+    None
+}
+
+// SIZE, and REFUSED where there is a reason.
+fn write_first(w: usize, h: usize, refusal: Option<Refusal>, out: &mut Writer)
+    ensures { Written out.old (line SIZE (w ∷ h ∷ []) (refusal_line refusal)) out.new }
+{
+    write_size(w, h, out);
+    if let Some(why) = refusal {
+        write_refused(why, out);
+    }
+}
+
+// The lines before the first step, from the start of the room on.
+pub fn begin(w: usize, h: usize, s: &[u8], room: &mut [u8]) -> Saying
+    ensures { Begins w h s.now room.old result room.new }
+{
+    let refusal = refusal_of(w, h, s);
+    let mut out = Writer { room, at: 0 };
+    write_first(w, h, refusal, &mut out);
+    Saying {
+        refused: refusal.is_some(),
+        end: out.at,
     }
 }

@@ -1,21 +1,26 @@
 -- What a step writes into its room, and that the room is always large enough. Assumes nothing.
-use mathlib.Core.Path.{◌≡◌, refl, sym}
+use mathlib.Core.Path.{◌≡◌, refl}
 use Prim.Native.Nat.{ℕ, ◌+◌, ◌≤◌}
+use native.Mathlib.Nat.{add-zero}
 use native.Mathlib.Omega.{arith}
+use Rattle.std.specs.Prelude.{Ok, Err}
 use mathlib.Core.List.{List, [], ◌∷◌}
-use mathlib.Core.Bool.{Bool, true, false, cond}
+use mathlib.Core.Bool.{Bool, cond}
 use lib.Dec.{eqb}
 use lib.ListN.{length}
-use borrow.Author.Tests.{eq-eqb, ne_eqb}
+use borrow.Author.Tests.{ne_eqb}
 use Rattle.common.specs.Bits.{ones_all}
 use Rattle.common.specs.Stores.{Wrote}
+use Rattle.common.specs.declared.writer.Writer.{Writer}
+use Rattle.common.specs.Writing.{Written}
 use Rattle.common.proofs.Choices.{choice}
-use Rattle.rules.specs.declared.Finding.{Finding}
-use Rattle.rules.specs.declared.Verdict.{Verdict}
+use Rattle.rules.specs.declared.Progress.{Progress}
+use Rattle.rules.specs.declared.Refusal.{Refusal}
 use Rattle.rules.specs.declared.State.{State}
-use Rattle.rules.specs.declared.Ran.{Ran}
+use Rattle.rules.specs.Given.{Ran}
 use Rattle.rules.specs.Findings.{finding_number, is_clean, is_refused}
 use Rattle.rules.specs.Acts.{World, world}
+use Rattle.rules.specs.Run.{carried, ran}
 use Rattle.rules.specs.Report.{line, PAGE, END, last_lines, counted, told}
 use Rattle.theorems.specs.Statements.{RunPromise}
 use Rattle.report_laws.specs.Left.{printed}
@@ -26,7 +31,7 @@ use Rattle.pages_mark.proofs.Marking.{marked_ahead}
 use Rattle.pages_open.specs.Opening.{longest_lines}
 use Rattle.report_laws.proofs.Whole.{held}
 use Rattle.pages_open.proofs.Holding.{two_most}
-use Rattle.pages_step.specs.Steps.{is_over, has_page, step_lines, step_items, Stepped}
+use Rattle.pages_step.specs.Steps.{is_over, has_page, step_lines, step_items, refused_sheet, step_sheet, Stepped}
 
 -- ---- how long
 -- the line of a page in front of s
@@ -55,45 +60,27 @@ step_most number findings o p = choice (λ (l : List ℕ). length l ≤ longest_
     (choice (λ l. length l ≤ longest_lines) (is_over o) (last_most number (world o.state.core p []) findings) (printed_most number o p))
 
 -- ---- what is written
--- b: whether the run was refused
-module _ (o : Ran) (v : Verdict) (b : Bool) (copied : v ≡ o.verdict) (tells : b ≡ is_refused v) where
-  known : is_refused o.verdict ≡ b
-  known = rw (← copied) (sym tells)
+-- the lines of a finding and its mark, and of a page
+pub step_told : {a b c : Writer} (number findings : ℕ) (o : Progress) (p : List ℕ) → (o.done ≡ 0 → ⊥) → Written a (told marked o.began o.found o.finding []) b
+    → Written b (cond o.ended (line PAGE (number ∷ ones_all p ∷ []) []) []) c → Written a (step_lines number findings (carried o) p) c
+step_told number findings o p z u w = rw (ne_eqb o.done 0 z) (wrote_told marked marked_ahead number (carried o) p u w)
 
-  -- a refused run leaves no page
-  pub page_none : b ≡ true → false ≡ has_page o
-  page_none e = rw (known, e)
+module _ {W H : ℕ} {page s : List ℕ} {t : State} {place number findings : ℕ} {room page' : List ℕ} where
+  -- a step whose run was carried out
+  pub stepped : {room' : List ℕ} {o : Progress} {end i j : ℕ} {there : Bool}
+      → RunPromise W H page s t place step_items (carried o) page' → Wrote room 0 (step_lines number findings (carried o) page') room' end → there ≡ has_page (carried o)
+      → i ≡ cond o.ended 1 0 → j ≡ counted o.finding
+      → Stepped W H page s t place number findings room (step_sheet t place number findings (Ok (record { state = o.state; place = o.place; number = number + i; findings = findings + j; end = end; paged = there; over = eqb o.done 0 }))) page' room'
+  stepped {o = o} p w d x y = record {
+    given = rw (← p.given, d, x, y);
+    lent = p.lent;
+    holds = rw (← p.given, ← p.lent) (held (step_most number findings (carried o) page') w);
+  }
 
-  -- at the end it is the last, if it is used
-  pub page_last : b ≡ false → o.done ≡ 0 → o.state.core.used ≡ has_page o
-  page_last e z = rw (known, e, eq-eqb o.done 0 z)
-
-  -- before, one that was ended
-  pub page_ended : b ≡ false → (o.done ≡ 0 → ⊥) → o.ended ≡ has_page o
-  page_ended e z = rw (known, e, ne_eqb o.done 0 z)
-
-module _ (number findings : ℕ) (o : Ran) (p : List ℕ) (v : Verdict) (b : Bool) (copied : v ≡ o.verdict) (tells : b ≡ is_refused v) where
-  -- of a refused run nothing
-  pub step_none : {l : List ℕ} → b ≡ true → Wrote l 0 (step_lines number findings o p) l 0
-  step_none e = rw (known o v b copied tells, e) record { next = omega arith; held = refl }
-
-  -- the last lines
-  pub step_end : {l l' : List ℕ} {r : ℕ} → b ≡ false → o.done ≡ 0 → Wrote l 0 (last_lines number (world o.state.core p []) findings) l' r
-      → Wrote l 0 (step_lines number findings o p) l' r
-  step_end e z w = rw (known o v b copied tells, e, eq-eqb o.done 0 z) w
-
-  -- the lines of a finding and its mark, and of a page
-  pub step_told : {l l1 l2 : List ℕ} {a r : ℕ} (f : Finding) → b ≡ false → (o.done ≡ 0 → ⊥) → f ≡ o.finding → Wrote l 0 (told marked o.began o.found f []) l1 a
-      → Wrote l1 a (cond o.ended (line PAGE (number ∷ ones_all p ∷ []) []) []) l2 r → Wrote l 0 (step_lines number findings o p) l2 r
-  step_told f e z k u w = rw (known o v b copied tells, e, ne_eqb o.done 0 z) (wrote_told marked marked_ahead number o p (rw k at u) w)
-
--- a step
-pub stepped : {W H : ℕ} {page s : List ℕ} {t : State} {place number findings : ℕ} {room page' room' : List ℕ} {o : Ran} {end i j : ℕ} {there : Bool} {v : Verdict}
-    → RunPromise W H page s t place step_items o page' → Wrote room 0 (step_lines number findings o page') room' end → there ≡ has_page o → v ≡ o.verdict
-    → i ≡ cond o.ended 1 0 → j ≡ counted o.finding
-    → Stepped W H page s t place number findings room (record { verdict = v; state = o.state; place = o.place; number = number + i; findings = findings + j; end = end; paged = there; over = eqb o.done 0 }) page' room'
-stepped {number = number} {findings} {room} {page'} {room'} {o} {end} p w d c x y = record {
-  given = rw (← p.given, d, c, x, y);
-  lent = p.lent;
-  holds = rw (← p.given, ← p.lent) (held (step_most number findings o page') w);
-}
+  -- one whose run was refused
+  pub step_refused : (why : Refusal) → RunPromise W H page s t place step_items (ran t place (Err why)) page' → Stepped W H page s t place number findings room (refused_sheet why t place number findings) page' room
+  step_refused why p = record {
+    given = rw (← p.given, add-zero number, add-zero findings);
+    lent = p.lent;
+    holds = rw (← p.given) (held (omega arith) (record { next = omega arith; held = refl }));
+  }

@@ -1,41 +1,23 @@
 -- A step that is refused, and that a promise of a step settles it. Assumes nothing.
-use mathlib.Core.Path.{◌≡◌, refl, ap, sym, ◌∙◌}
-use Prim.Native.Nat.{ℕ, zero, suc, ◌+◌}
+use mathlib.Core.Path.{◌≡◌, ap, sym, ◌∙◌}
+use Prim.Native.Nat.{ℕ}
 use native.Mathlib.Nat.{add-zero}
 use native.Mathlib.Omega.{arith}
-use mathlib.Core.List.{List, []}
-use mathlib.Core.Bool.{not, ◌&&◌}
+use mathlib.Core.List.{List}
+use mathlib.Core.Bool.{not}
 use lib.Dec.{ltb}
-use lib.ListN.{length, take, drop}
-use Rattle.common.specs.Lists.{is_nil}
+use lib.ListN.{length, take}
 use Rattle.common.proofs.Choices.{choice}
-use Rattle.rules.specs.declared.Measure.{Measure}
 use Rattle.rules.specs.declared.Refusal.{Refusal}
 use Rattle.rules.specs.declared.Refusal.TheVariants.{PageMeasure, PageBuffer, StreamLength, UnsoundState, StartPlace}
-use Rattle.rules.specs.declared.Verdict.TheVariants.{Carried, Refused}
+use Rattle.rules.specs.Given.{Refused}
 use Rattle.rules.specs.declared.State.{State}
 use Rattle.rules.specs.Measure.{allowed, measure_of, page_bytes, is_too_long}
-use Rattle.rules.specs.Findings.{is_clean}
 use Rattle.rules.specs.Sound.{sound}
-use Rattle.rules.specs.Acts.{world, show_all, step, over}
-use Rattle.rules.specs.Run.{Outcome, refused, run_from, readied, run, answer}
+use Rattle.rules.specs.Run.{Outcome, refused, answer}
+use Rattle.run.proofs.Carried.{run_carried}
 use Rattle.report_laws.proofs.Whole.{held_once}
-use Rattle.pages_step.specs.declared.Sheet.{Sheet}
-use Rattle.pages_step.specs.Steps.{step_items, sheet_of, refused_sheet, OneStep, RefusedStepsWriteNothing}
-
--- ---- a run of the rules is no refusal
-from_carried : (g : Measure) (n done at : ℕ) (t : State) (p s : List ℕ) → (run_from g n done at t p s).ran.verdict ≡ Carried
-unfolding run_from
-from_carried g zero done at t p s = refl
-from_carried g (suc n) done at t p s =
-    let d = step g t s in
-    let w = show_all g d.done.acts (world t.core p []) in
-    choice (λ (o : Outcome). o.ran.verdict ≡ Carried) (over t s) refl
-    (choice (λ (o : Outcome). o.ran.verdict ≡ Carried) (is_clean d.done.finding && is_nil w.handed) (from_carried g n (done + 1) (at + d.done.took) d.state w.page d.rest) refl)
-
-pub run_carried : (g : Measure) (n : ℕ) (t : State) (at : ℕ) (p s : List ℕ) → (run g n t at p s).ran.verdict ≡ Carried
-unfolding run
-run_carried g n t at p s = from_carried g n 0 at t (readied g n t p (drop at s)) (drop at s)
+use Rattle.pages_step.specs.Steps.{Sheet, step_items, sheet_of, refused_sheet, OneStep, RefusedStepsWriteNothing}
 
 -- ---- a call that is refused
 module _ (W H : ℕ) (page s : List ℕ) (t : State) (place k : ℕ) where

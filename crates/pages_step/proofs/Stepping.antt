@@ -6,20 +6,22 @@ use mathlib.Core.List.{List}
 use mathlib.Core.Bool.{true, false, true≢false}
 use lib.ListN.{length, take, drop}
 use lib.Seq.{length-take-le}
+use Rattle.std.specs.Prelude.{Result, Ok, Err}
+use Rattle.std.specs.Result.{IsOk}
 use Rattle.rules.specs.declared.Measure.{Measure}
 use Rattle.rules.specs.declared.State.{State}
 use Rattle.rules.specs.Measure.{Bounded, allowed, measure_of, page_bytes, longest_stream}
 use Rattle.rules.specs.declared.Refusal.{Refusal}
-use Rattle.rules.specs.declared.Verdict.TheVariants.{Refused}
+use Rattle.rules.specs.Given.{Refused}
 use Rattle.rules.specs.Findings.{is_refused}
 use Rattle.rules.specs.States.{afresh}
 use Rattle.theorems.proofs.Reading.{left}
 use Rattle.theorems.proofs.Measures.{allowed_gives}
 use Rattle.report_laws.proofs.Reporting.{Going, going_start}
-use Rattle.pages_open.specs.declared.Beginning.{Beginning}
-use Rattle.pages_step.specs.declared.Sheet.{Sheet}
+use Rattle.report_verdict.specs.declared.Saying.{Saying}
 use Rattle.pages_open.specs.Opening.{longest_lines, Begins}
-use Rattle.pages_step.specs.Steps.{Stepped}
+use Rattle.pages_step.specs.declared.StepDone.{StepDone}
+use Rattle.pages_step.specs.Steps.{Sheet, Stepped, step_sheet}
 use Rattle.pages_step.proofs.Whole.{taken, carried_out, some, again, less}
 
 -- a page that is allowed is within the largest
@@ -43,7 +45,7 @@ pub part_length : (n : ℕ) (l : List ℕ) → n ≤ length l → n ≡ length (
 part_length n l h = sym (length-take-le n l h)
 
 -- what a job that is not refused is known to be
-pub taken_job : {W H : ℕ} {s room : List ℕ} {r : Beginning} {after : List ℕ} → Begins W H s room r after → r.refused ≡ false → (allowed W H ≡ true) × (length s ≤ longest_stream)
+pub taken_job : {W H : ℕ} {s room : List ℕ} {r : Saying} {after : List ℕ} → Begins W H s room r after → r.refused ≡ false → (allowed W H ≡ true) × (length s ≤ longest_stream)
 taken_job {W} {H} {s} b f = taken W H s (sym b.refused ∙ f)
 
 -- what holds before each step: all is as it should be, and the room has its length, which is enough for the lines of any step
@@ -71,6 +73,11 @@ module _ {W H : ℕ} {s page before room : List ℕ} {t : State} {place number f
   pub stepping_carried : {r : Sheet} {page' room' : List ℕ} (why : Refusal) → Stepped W H page s t place number findings room r page' room' → r.verdict ≡ Refused why → ⊥
   stepping_carried why step e =
       true≢false (ap is_refused (sym e ∙ ap (λ (q : Sheet). q.verdict) step.given) ∙ carried_out W H allow s long inv.going)
+
+  -- so that what a program gives is what the step left
+  pub stepping_ok : {page' room' : List ℕ} (r : Result StepDone Refusal) → Stepped W H page s t place number findings room (step_sheet t place number findings r) page' room' → IsOk r
+  stepping_ok (Ok d) step = refl
+  stepping_ok (Err why) step = absurd (stepping_carried why step refl)
 
   module _ {r : Sheet} {page' room' : List ℕ} (step : Stepped W H page s t place number findings room r page' room') (more : r.over ≡ false) where
     -- less is left to read

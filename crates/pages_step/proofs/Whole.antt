@@ -28,7 +28,7 @@ use Rattle.pages_step.specs.Sheets.{page_sheets}
 use Rattle.pages_step.specs.Left.{pages_left}
 use Rattle.pages_step.specs.Steps.{step_items, Written, written, step_writes, steps, job_steps, WritesAll, StepsWriteTheJob, all_carried, StepsAreCarried}
 use Rattle.pages_step.proofs.Sizes.{run_sized}
-use Rattle.pages_step.proofs.Refusals.{run_carried}
+use Rattle.run.proofs.Carried.{run_carried}
 use Rattle.pages_step.proofs.Pages.{pages_whole, pages_over, run_pages}
 
 module _ (W H : ℕ) (allow : allowed W H ≡ true) (s : List ℕ) (long : length s ≤ longest_stream) where

@@ -1,10 +1,10 @@
 -- A job in steps: a step is one run, its lines, and the page that it ended or the last one. What a step gives, and what all steps write.
-use Rattle.std.specs.Prelude.{◌≡◌, ℕ, zero, suc, ◌+◌, Bool, true, false, cond, not, ◌&&◌, List, [], ◌∷◌, ◌++◌, eqb, length}
+use Rattle.std.specs.Prelude.{◌≡◌, ℕ, zero, suc, ◌+◌, Bool, true, false, cond, not, ◌&&◌, List, [], ◌∷◌, ◌++◌, Result, Ok, Err, eqb, length}
 use Rattle.common.specs.Stores.{Holds}
 use Rattle.rules.specs.declared.Refusal.{Refusal}
-use Rattle.rules.specs.declared.Verdict.TheVariants.{Refused}
+use Rattle.rules.specs.Given.{Verdict, Carried, Refused}
 use Rattle.rules.specs.declared.State.{State}
-use Rattle.rules.specs.declared.Ran.{Ran}
+use Rattle.rules.specs.Given.{Ran}
 use Rattle.rules.specs.Measure.{measure_of, page_bytes}
 use Rattle.rules.specs.Findings.{is_refused}
 use Rattle.rules.specs.States.{afresh}
@@ -12,7 +12,7 @@ use Rattle.rules.specs.Acts.{world}
 use Rattle.rules.specs.Run.{Outcome, answer, enough}
 use Rattle.rules.specs.Report.{last_lines, counted}
 use Rattle.report_laws.specs.Left.{printed}
-use Rattle.pages_step.specs.declared.Sheet.{Sheet}
+use Rattle.pages_step.specs.declared.StepDone.{StepDone}
 use Rattle.pages_mark.specs.Marks.{marked}
 use Rattle.pages_open.specs.Opening.{longest_lines, first_lines, job_refused}
 use Rattle.pages_step.specs.Sheets.{pbms, job_pages, job_lines}
@@ -35,6 +35,18 @@ step_lines number findings o p =
     let lines = cond (is_over o) (last_lines number (world o.state.core p []) findings) (printed marked number o p []) in
     cond (is_refused o.verdict) [] lines
 
+-- what a step leaves, as the paper tells it: whether it was carried out; the state, the place, the number of the page being drawn and the findings so far,
+-- all for the next step; where its lines end in the room; whether the page buffer holds a page to be written; whether there is no further step to make
+pub record Sheet : Type 0 where
+  pub verdict : Verdict
+  pub state : State
+  pub place : ℕ
+  pub number : ℕ
+  pub findings : ℕ
+  pub end : ℕ
+  pub paged : Bool
+  pub over : Bool
+
 abbrev pub sheet_of : ℕ → ℕ → Ran → ℕ → Sheet
 sheet_of number findings o end = record {
   verdict = o.verdict;
@@ -46,18 +58,6 @@ sheet_of number findings o end = record {
   paged = has_page o;
   over = is_over o;
 }
-
--- what is promised of a step, whatever it is called with
-pub record Stepped (W H : ℕ) (page s : List ℕ) (t : State) (place number findings : ℕ) (room : List ℕ) (r : Sheet) (page' room' : List ℕ) : Type 0 where
-  pub given : r ≡ sheet_of number findings (answer W H page s t place step_items).ran r.end
-  pub lent : page' ≡ (answer W H page s t place step_items).page
-  pub holds : Holds longest_lines (step_lines number findings (answer W H page s t place step_items).ran (answer W H page s t place step_items).page) room room' r.end
-
--- two outcomes that it allows for one input are equal
-abbrev pub OneStep : Type 0
-OneStep = (W H : ℕ) (page s : List ℕ) (t : State) (place number findings : ℕ) (room : List ℕ) (r r' : Sheet) (page' page'' room' room'' : List ℕ)
-    → Stepped W H page s t place number findings room r page' room' → Stepped W H page s t place number findings room r' page'' room''
-    → (r ≡ r') × (page' ≡ page'') × (room' ≡ room'')
 
 -- a step that is refused tells why, hands back what it was given, and writes nothing
 abbrev pub refused_sheet : Refusal → State → ℕ → ℕ → ℕ → Sheet
@@ -71,6 +71,32 @@ refused_sheet why t place number findings = record {
   paged = false;
   over = true;
 }
+
+-- what a program's answer says: what a step left whose run was carried out, and for a refusal what was given
+abbrev pub step_sheet : State → ℕ → ℕ → ℕ → Result StepDone Refusal → Sheet
+step_sheet t place number findings (Ok d) = record {
+  verdict = Carried;
+  state = d.state;
+  place = d.place;
+  number = d.number;
+  findings = d.findings;
+  end = d.end;
+  paged = d.paged;
+  over = d.over;
+}
+step_sheet t place number findings (Err why) = refused_sheet why t place number findings
+
+-- what is promised of a step, whatever it is called with
+pub record Stepped (W H : ℕ) (page s : List ℕ) (t : State) (place number findings : ℕ) (room : List ℕ) (r : Sheet) (page' room' : List ℕ) : Type 0 where
+  pub given : r ≡ sheet_of number findings (answer W H page s t place step_items).ran r.end
+  pub lent : page' ≡ (answer W H page s t place step_items).page
+  pub holds : Holds longest_lines (step_lines number findings (answer W H page s t place step_items).ran (answer W H page s t place step_items).page) room room' r.end
+
+-- two outcomes that it allows for one input are equal
+abbrev pub OneStep : Type 0
+OneStep = (W H : ℕ) (page s : List ℕ) (t : State) (place number findings : ℕ) (room : List ℕ) (r r' : Sheet) (page' page'' room' room'' : List ℕ)
+    → Stepped W H page s t place number findings room r page' room' → Stepped W H page s t place number findings room r' page'' room''
+    → (r ≡ r') × (page' ≡ page'') × (room' ≡ room'')
 
 abbrev pub RefusedStepsWriteNothing : Type 0
 RefusedStepsWriteNothing = (W H : ℕ) (page s : List ℕ) (t : State) (place number findings : ℕ) (room : List ℕ) (r : Sheet) (page' room' : List ℕ) (why : Refusal)

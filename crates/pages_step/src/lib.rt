@@ -4,25 +4,25 @@
 #![tactic(auto)]
 
 ghost use Rattle.std.specs.Prelude.{◌≡◌, ◌≤◌, length};
-ghost use Rattle.common.specs.Stores.{Wrote};
+ghost use Rattle.common.specs.Writing.{Written};
 ghost use Rattle.dot_page.specs.Zeros.{FirstZero};
-ghost use Rattle.rules.specs.Findings.{is_refused};
-ghost use Rattle.pages_step.specs.Steps.{Stepped, has_page, step_lines};
+ghost use Rattle.rules.specs.Run.{carried};
+ghost use Rattle.pages_step.specs.Steps.{Stepped, has_page, step_lines, step_sheet};
 
-use common::flag;
+use common::Writer;
 use pages_mark::write_marked;
 use report_page::{write_last, write_page_if};
 use report_run::count_of;
-use rules::{Ran, State, Verdict};
+use rules::{Progress, Refusal, State};
+use run::run;
 
 // Items a step is allowed: more than any job has.
 const ALLOWANCE: usize = 2097153;
 
-// What a step leaves: whether it was carried out; the state, the place, the number of the page being drawn and the findings so far, all for the next step;
-// where its lines end in the room; whether the page buffer holds a page to be written; whether there is no further step to make.
+// What a step leaves: the state, the place, the number of the page being drawn and the findings so far, all for the next step; where its lines end in the
+// room; whether the page buffer holds a page to be written; whether there is no further step to make.
 #[derive(Drop)]
-pub struct Sheet {
-    pub verdict: Verdict,
+pub struct StepDone {
     pub state: State,
     pub place: usize,
     pub number: usize,
@@ -32,55 +32,33 @@ pub struct Sheet {
     pub over: bool,
 }
 
-// Whether a run was refused.
-fn is_refused(v: Verdict) -> bool
-    ensures { result ≡ is_refused v }
+// Whether a page is to be written: one that was ended, or the last if it is used.
+fn leaves_page(o: &Progress) -> bool
+    ensures { result ≡ has_page (carried o.now) }
 {
-    match v {
-        Verdict::Carried => false,
-        Verdict::Refused(_) => true,
-    }
-}
-
-// Whether a page is to be written: one that was ended, or the last if it is used. A refused run leaves none.
-fn leaves_page(o: Ran) -> bool
-    ensures { result ≡ has_page o }
-{
-    let v = o.verdict;
-    if is_refused(v) {
-        return false;
-    }
     if o.done == 0 {
         return o.state.core.used;
     }
     o.ended
 }
 
-// The lines of a run, or the last ones where nothing was left to do; none of a refused run. The first `zeros` bytes of the page are known to be zero.
+// The lines of a run, or the last ones where nothing was left to do. The first `zeros` bytes of the page are known to be zero.
 fn write_lines(
-    o: Ran,
+    o: &Progress,
     number: usize,
     findings: usize,
     page: &[u8],
     zeros: usize,
-    room: &mut [u8],
-) -> usize
+    out: &mut Writer,
+)
     requires { (length page.now ≤ 4294967296) × FirstZero zeros page.now }
-    ensures { Wrote room.old 0 (step_lines number findings o page.now) room.new result }
+    ensures { Written out.old (step_lines number findings (carried o.now) page.now) out.new }
 {
-    let verdict = o.verdict;
-    if is_refused(verdict) {
-        return 0;
-    }
     if o.done == 0 {
-        let t = o.state;
-        let core = t.core;
-        return write_last(number, core, page, findings, room, 0);
+        return write_last(number, o.state.core, page, findings, out);
     }
-    let f = o.finding;
-    let began = o.began;
-    let behind = write_marked(o.found, f, began, room, 0);
-    write_page_if(o.ended, number, page, zeros, room, behind)
+    write_marked(o.found, o.finding, o.began, out);
+    write_page_if(o.ended, number, page, zeros, out);
 }
 
 // One step of the job s: a run from the place on, on the page that is lent, and its lines at the front of the room. `zeros` is how many bytes of the page are
@@ -97,26 +75,22 @@ pub fn next(
     findings: usize,
     zeros: &mut usize,
     room: &mut [u8],
-) -> Sheet
+) -> Result<StepDone, Refusal>
     requires { (length page.old ≤ 4294967296) × (number ≤ 4294967296) × (findings ≤ 4294967296) × FirstZero zeros.old page.old }
-    ensures { Stepped w h page.old s.now t place number findings room.old result page.new room.new × FirstZero zeros.new page.new }
+    ensures { Stepped w h page.old s.now t place number findings room.old (step_sheet t place number findings result) page.new room.new × FirstZero zeros.new page.new }
 {
-    let o = run::run(page, w, h, s, t, place, ALLOWANCE, zeros);
-    let end = write_lines(o, number, findings, page, *zeros, room);
-    let paged = leaves_page(o);
-    let next_number = number + flag(o.ended);
-    let f = o.finding;
-    let all_findings = findings + count_of(f);
-    let verdict = o.verdict;
-    let state = o.state;
-    Sheet {
-        verdict,
-        state,
+    let o = run(page, w, h, s, t, place, ALLOWANCE, zeros)?;
+    let mut out = Writer { room, at: 0 };
+    write_lines(&o, number, findings, page, *zeros, &mut out);
+    let end = out.at;
+    let paged = leaves_page(&o);
+    Ok(StepDone {
+        state: o.state,
         place: o.place,
-        number: next_number,
-        findings: all_findings,
+        number: number + usize::from(o.ended),
+        findings: findings + count_of(o.finding),
         end,
         paged,
         over: o.done == 0,
-    }
+    })
 }

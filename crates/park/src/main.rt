@@ -4,33 +4,22 @@
 // seen to be longer. The room is that of the longest text, so 15 is never said.
 #![tactic(auto)]
 
-use given::Given;
+use std::io;
 
-// A place for the largest page, 4,800 by 6,800 dots, which is drawn on and not read. A function of its own hides the zeros: no proof can count so many.
-fn largest_page() -> [u8; 4080000] {
-    [0u8; 4080000]
-}
-
-// The text of a job, or the line of its refusal; whether it was written.
-fn write_parked(out: &impl Print, w: usize, h: usize, s: &[u8], items: usize) -> bool {
-    let mut page = largest_page();
+// The text of a job, or the line of its refusal.
+fn write_parked(out: &impl Print, w: usize, h: usize, job: &[u8], items: usize) -> io::Result<()> {
+    let mut page = given::largest_page();
     let mut room = [0u8; 1905];
-    let said = park_say::say_parked(&mut page, w, h, s, items, &mut room);
-    let end = said.end;
-    out.write_all(&room[..end]).is_ok()
+    let said = park_say::say_parked(&mut page, w, h, job, items, &mut room);
+    out.write_all(&room[..said.end])
 }
 
 fn main(rt: HostRuntime) {
-    let err = rt.stderr();
     let w = given::measure_word(&rt, 1, 2552);
     let h = given::measure_word(&rt, 2, 3304);
     let items = given::items_word(&rt, 3, 2097153);
     let mut input = given::longest_input();
-    let Given::Job(n) = given::read_job(&mut rt.stdin(), &mut input) else {
-        let _ = err.write_all(b"UNREAD\n");
-        return;
-    };
-    if !write_parked(&rt.stdout(), w, h, &input[..n], items) {
-        let _ = err.write_all(b"UNWRITTEN\n");
-    }
+    given::answer(&mut rt.stdin(), &rt.stderr(), &mut input, |job| {
+        write_parked(&rt.stdout(), w, h, job, items)
+    });
 }

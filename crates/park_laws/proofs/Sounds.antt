@@ -1,17 +1,17 @@
 -- What soundness says of each member. Assumes nothing.
-use mathlib.Core.Path.{◌≡◌, refl, sym, ◌∙◌}
+use mathlib.Core.Path.{◌≡◌, refl}
 use Prim.Native.Nat.{ℕ, zero, suc, ◌≤◌}
 use native.Mathlib.Omega.{arith}
 use mathlib.Core.List.{List, [], ◌∷◌, ◌++◌}
-use mathlib.Core.Bool.{Bool, true, false, not, ◌&&◌}
+use mathlib.Core.Bool.{Bool, true, false, ◌&&◌}
 use lib.Dec.{eqb, leb}
 use lib.ListN.{length, take, drop, replicate}
-use borrow.Author.Tests.{leb-true, eqb-true, not-false}
+use borrow.Author.Tests.{leb-true, eqb-true}
 use Rattle.common.specs.Choice.{flagged}
 use Rattle.common.proofs.Choices.{and_true, one_of-bounds}
 use Rattle.rules.specs.declared.Spot.{Spot}
 use Rattle.rules.specs.declared.Measure.{Measure}
-use Rattle.rules.specs.Measure.{Bounded, allowed, LW, LH, measure_of, stack_holds, origin, spot}
+use Rattle.rules.specs.Measure.{allowed, LW, LH, stack_holds, origin, spot}
 use Rattle.rules.specs.Sound.{in_page, all_in_page, all_free, resolutions, all_zero, sound}
 use Rattle.rules.specs.Forms.{Parked, measured}
 use Rattle.rules.specs.Park.{parked_sound, row_bytes, depth_of}
@@ -110,7 +110,3 @@ each_append (each h u) v = each h (each_append u v)
 pub each_zero : (n : ℕ) → Each IsByte (replicate n 0)
 each_zero zero = none
 each_zero (suc n) = each {a = 0} (omega arith) (each_zero n)
-
--- ---- an allowed measure is one that soundness is asked on
-pub bounded : (W H : ℕ) (x : Bool) → x ≡ allowed W H → not x ≡ false → (g : Measure) → g ≡ measure_of W H → Bounded g
-bounded W H x a a₁ g m = let f = (allowed_gives W H (sym a ∙ not-false x a₁)).fits in rw m (f.wide, f.high)

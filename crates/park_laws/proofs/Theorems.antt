@@ -13,7 +13,7 @@ use Rattle.rules.specs.declared.Sequence.TheVariants.{Closed, Open}
 use Rattle.rules.specs.declared.State.{State}
 use Rattle.rules.specs.declared.Refusal.{Refusal}
 use Rattle.rules.specs.declared.Refusal.TheVariants.{PageMeasure, UnsoundState, Room, SequenceOpen}
-use Rattle.rules.specs.declared.Verdict.TheVariants.{Carried, Refused}
+use Rattle.rules.specs.Given.{Carried, Refused}
 use Rattle.rules.specs.Measure.{allowed, measure_of}
 use Rattle.rules.specs.Sound.{sound}
 use Rattle.theorems.proofs.Sound.{state_facts}

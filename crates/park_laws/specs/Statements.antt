@@ -3,8 +3,8 @@ use Rattle.std.specs.Prelude.{◌≡◌, true, false, cond, List, ℕ, ◌≤◌
 use Rattle.rules.specs.declared.Measure.{Measure}
 use Rattle.rules.specs.declared.Sequence.TheVariants.{Closed}
 use Rattle.rules.specs.declared.State.{State}
-use Rattle.rules.specs.declared.Verdict.TheVariants.{Carried}
-use Rattle.rules.specs.declared.Unparked.{Unparked}
+use Rattle.rules.specs.Given.{Carried}
+use Rattle.rules.specs.Given.{Unparked}
 use Rattle.rules.specs.Measure.{allowed, measure_of}
 use Rattle.rules.specs.Sound.{sound}
 use Rattle.rules.specs.Forms.{Parked, JOB}

@@ -11,7 +11,8 @@ use Rattle.common.specs.Lists.{is_nil}
 use Rattle.common.proofs.Choices.{choice, choice_by}
 use Rattle.rules.specs.declared.Measure.{Measure}
 use Rattle.rules.specs.declared.State.{State}
-use Rattle.rules.specs.declared.Ran.{Ran}
+use Rattle.rules.specs.Given.{Ran, Carried}
+use Rattle.run.proofs.Carried.{run_carried}
 use Rattle.rules.specs.Measure.{allowed, measure_of, page_bytes, longest_stream}
 use Rattle.rules.specs.States.{afresh}
 use Rattle.rules.specs.Sound.{sound}
@@ -119,6 +120,10 @@ module _ (W H : ℕ) where
           let m : ltb longest_stream (length s) ≡ false = le-ltb longest_stream (length s) long in
           let q : ltb (length s) place ≡ false = le-ltb (length s) place inv.placed in
           promise.given ∙ rw (allow, n, m, inv.sound, q)
+
+      -- which is never refused
+      pub doing_carried : o.verdict ≡ Carried
+      doing_carried = rw call (run_carried (measure_of W H) more t place (take (page_bytes (measure_of W H)) page) s)
 
       -- it did no more than was allowed
       pub doing_few : o.done ≤ more

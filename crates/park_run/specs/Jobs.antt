@@ -3,7 +3,7 @@ use Rattle.std.specs.Prelude.{◌≡◌, true, cond, not, List, ℕ, ◌≤◌, 
 use Rattle.rules.specs.declared.Measure.{Measure}
 use Rattle.rules.specs.declared.Refusal.TheVariants.{PageMeasure, PageBuffer, StreamLength}
 use Rattle.rules.specs.declared.State.{State}
-use Rattle.rules.specs.declared.Parking.{Parking}
+use Rattle.rules.specs.Given.{Parking}
 use Rattle.rules.specs.Measure.{allowed, measure_of, page_bytes, is_too_long}
 use Rattle.rules.specs.States.{afresh}
 use Rattle.rules.specs.Sound.{sound}

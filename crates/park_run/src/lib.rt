@@ -4,19 +4,14 @@
 
 ghost use Rattle.std.specs.Prelude.{◌≡◌, true, ◌≤◌, length, drop};
 ghost use Rattle.rules.specs.Measure.{allowed, measure_of, page_bytes, longest_stream};
-ghost use Rattle.rules.specs.States.{afresh};
+ghost use Rattle.rules.specs.Park.{parking};
 ghost use Rattle.park_run.specs.Jobs.{state_after, ParksJob};
 
-use park_write::{park, refuse};
-use rules::{LONGEST_STREAM, Parking, Refusal, State};
-
-// The state before the first run.
-fn first_state(w: usize, h: usize) -> State
-    requires { allowed w h ≡ true }
-    ensures { result ≡ afresh (measure_of w h) }
-{
-    state_afresh::afresh(state_page::measure_of(w, h))
-}
+use park_write::park;
+use rules::{LONGEST_STREAM, Refusal, State};
+use run::run;
+use state_afresh::afresh_on;
+use state_page::page_of;
 
 // The state behind at most `items` items of the stream s: run after run, since a run stops behind a finding and behind a page end, until nothing is done.
 fn state_after(page: &mut [u8], w: usize, h: usize, s: &[u8], items: usize) -> State
@@ -25,24 +20,24 @@ fn state_after(page: &mut [u8], w: usize, h: usize, s: &[u8], items: usize) -> S
     requires s_len_bound { length s.now ≤ longest_stream }
     ensures { (result ≡ state_after (measure_of w h) items s.now) × (drop (page_bytes (measure_of w h)) page.new ≡ drop (page_bytes (measure_of w h)) page.old) }
 {
-    let mut state = first_state(w, h);
+    let mut state = afresh_on(w, h);
     let mut place: usize = 0;
     let mut more = items;
     let mut zeros: usize = 0;
     loop {
-        let o = run::run(page, w, h, s, state, place, more, &mut zeros);
-        let t = o.state;
+        let o = run(page, w, h, s, state, place, more, &mut zeros).unwrap();
         if o.done == 0 {
-            return t;
+            return o.state;
         }
         more -= o.done;
         place = o.place;
-        state = t;
+        state = o.state;
     }
 }
 
 // The state of a job on a page of w by h dots, run afresh for at most `items` items, parked at the front of the room. Refusals 10, 11, 12 are checked in that
 // order, and then those of parking a state, of which 13 never comes: what a run leaves is sound.
+#[tactic(auto, unfolding(crate::specs::Jobs::park_job))]
 pub fn park_job(
     page: &mut [u8],
     w: usize,
@@ -50,18 +45,16 @@ pub fn park_job(
     s: &[u8],
     items: usize,
     room: &mut [u8],
-) -> Parking
-    ensures { ParksJob w h page.old s.now items room.old result page.new room.new }
+) -> Result<usize, Refusal>
+    ensures { ParksJob w h page.old s.now items room.old (parking result) page.new room.new }
 {
-    if !state_page::allowed(w, h) {
-        return refuse(Refusal::PageMeasure);
-    }
-    let g = state_page::measure_of(w, h);
-    if page.len() < g.high * g.wide {
-        return refuse(Refusal::PageBuffer);
+    let g = page_of(w, h).ok_or(Refusal::PageMeasure)?;
+    let bytes = g.high() * g.wide();
+    if page.len() < bytes {
+        return Err(Refusal::PageBuffer);
     }
     if LONGEST_STREAM < s.len() {
-        return refuse(Refusal::StreamLength);
+        return Err(Refusal::StreamLength);
     }
     let t = state_after(page, w, h, s, items);
     park(w, h, t, room)

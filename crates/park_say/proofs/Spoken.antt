@@ -8,14 +8,16 @@ use lib.ListN.{length, drop}
 use borrow.Author.Tests.{ltb-false}
 use Rattle.rules.specs.declared.Refusal.TheVariants.{PageMeasure, PageBuffer, StreamLength, UnsoundState, SequenceOpen, Room}
 use Rattle.rules.specs.declared.State.{State}
-use Rattle.rules.specs.declared.Parking.{Parking}
-use Rattle.rules.specs.declared.Verdict.TheVariants.{Carried}
+use Rattle.std.specs.Prelude.{Result, Ok, Err}
+use Rattle.rules.specs.declared.Refusal.{Refusal}
+use Rattle.rules.specs.Given as Given
+use Rattle.rules.specs.Given.{Carried}
 use Rattle.rules.specs.Measure.{allowed, measure_of, page_bytes, is_too_long}
 use Rattle.rules.specs.Sound.{sound}
 use Rattle.rules.specs.Forms.{parked_of, JOB}
-use Rattle.rules.specs.Park.{write, Stowed, stowed, stow_refused, is_open, park}
+use Rattle.rules.specs.Park.{write, Stowed, stowed, stow_refused, is_open, park, parking}
 use Rattle.report_verdict.specs.declared.Saying.{Saying}
-use Rattle.report_verdict.specs.Said.{SaysVerdict, Leaves}
+use Rattle.report_verdict.specs.Said.{length_of, SaysVerdict, Leaves}
 use Rattle.report_verdict.proofs.Spoken.{left_whole, said_of, one_said}
 use Rattle.park_run.specs.Jobs.{state_after, park_job, ParksJob}
 use Rattle.park_say.specs.Said.{text_of, Says, OneSaying}
@@ -40,6 +42,11 @@ parking_left W H t room = go (not (allowed W H)) (not (sound (measure_of W H) t)
     go false false false true e = refl
     go false false false false e = left_whole text room (ltb-false (length room) (length text) e)
 
+-- what is said by an answer is said by its record
+by_parking : (o : Result ℕ Refusal) (left : List ℕ) (r : Saying) (after : List ℕ) → SaysVerdict (Given.verdict_of o) (length_of o) left r after → SaysVerdict (parking o).verdict (parking o).length left r after
+by_parking (Ok n) left r after y = y
+by_parking (Err why) left r after y = y
+
 module _ (W H : ℕ) (page s : List ℕ) (n : ℕ) (room : List ℕ) where
   -- of a job
   job_left : Left (text_of W H s n) room (park_job W H page s n room)
@@ -53,9 +60,9 @@ module _ (W H : ℕ) (page s : List ℕ) (n : ℕ) (room : List ℕ) where
       go false false false = parking_left W H (state_after (measure_of W H) n s) room
 
   -- what is said by its answer is said of the text
-  pub parked_said : (o : Parking) (page' left : List ℕ) (r : Saying) (after : List ℕ) → ParksJob W H page s n room o page' left → SaysVerdict o.verdict o.length left r after
+  pub parked_said : (o : Result ℕ Refusal) (page' left : List ℕ) (r : Saying) (after : List ℕ) → ParksJob W H page s n room (parking o) page' left → SaysVerdict (Given.verdict_of o) (length_of o) left r after
       → Says W H page s n room r after
-  parked_said o page' left r after h y = said_of _ _ (text_of W H s n) room (park_job W H page s n room).room r after job_left (rw (h.given, h.lent) at y)
+  parked_said o page' left r after h y = said_of _ _ (text_of W H s n) room (park_job W H page s n room).room r after job_left (rw (h.given, h.lent) at (by_parking o left r after y))
 
 -- one saying
 pub one_saying : OneSaying

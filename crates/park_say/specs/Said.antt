@@ -1,6 +1,6 @@
 -- What the program `park` says: the parked text of a job's state, or a refusal in one line, REFUSED and its number.
 use Rattle.std.specs.Prelude.{◌≡◌, List, ℕ}
-use Rattle.rules.specs.declared.Verdict.{Verdict}
+use Rattle.rules.specs.Given.{Verdict}
 use Rattle.rules.specs.Measure.{measure_of}
 use Rattle.rules.specs.Forms.{parked_of, JOB}
 use Rattle.rules.specs.Park.{write}

@@ -18,7 +18,6 @@ pub fn say_parked(
 ) -> Saying
     ensures { Says w h page.old s.now items room.old result room.new }
 {
-    let r = park_job(page, w, h, s, items, room);
-    let verdict = r.verdict;
-    say(verdict, r.length, room)
+    let outcome = park_job(page, w, h, s, items, room);
+    say(outcome, room)
 }

@@ -1,11 +1,11 @@
 -- A text counted piece by piece. Assumes nothing.
-use mathlib.Core.Path.{◌≡◌, ap, ◌∙◌}
+use mathlib.Core.Path.{◌≡◌, refl, ap, ◌∙◌}
 use mathlib.Core.List.{List, [], ◌∷◌, ◌++◌}
-use Prim.Native.Nat.{ℕ, ◌+◌, ◌*◌, ◌/◌, ◌≤◌, ◌<◌, min}
+use Prim.Native.Nat.{ℕ, ◌+◌, ◌*◌, ◌/◌, ◌≤◌, ◌<◌}
 use native.Mathlib.Omega.{arith}
 use native.Mathlib.Nat.{mul-suc}
 use native.Mathlib.Numerals.{add-one}
-use lib.ListN.{length, get_or, take, drop, length-take, length-append}
+use lib.ListN.{length, get_or, take, drop, length-append, drop_of_length-le}
 use Rattle.rules.specs.declared.Spot.{Spot}
 use Rattle.rules.specs.declared.State.{State}
 use Rattle.rules.specs.Forms.{parked_of, JOB}
@@ -14,7 +14,7 @@ use Rattle.rules.specs.Plain.{decimal}
 use Rattle.rules.specs.Report.{fields, line}
 use Rattle.rules.specs.Texts.{put_many, put_position, put_row}
 use Rattle.plain_length.specs.Counts.{Counted}
-use Rattle.park_text.proofs.Texts.{taken_next, taken_end, fields_first, fields_next, fields_none, position_append, pairs_length, write_parts}
+use Rattle.park_text.proofs.Texts.{many_next, fields_first, fields_next, fields_none, position_append, pairs_length, write_parts}
 
 -- a loop that counts pieces of at most `most` bytes: those counted, and those of what is left, are all
 pub record Counts (all : List ℕ) (most count i : ℕ) (rest : List ℕ) : Type 0 where
@@ -51,32 +51,31 @@ position_counted p x y a b =
     let f : length (fields (p.y ∷ []) []) ≡ length (9 ∷ decimal p.y []) + 1 = ap length (fields_first p.y [] []) ∙ length-append (9 ∷ decimal p.y []) (10 ∷ []) in
     record { is = omega (arith, a.is, b.is); small = omega (arith, a.small, b.small) }
 
-module _ (n : ℕ) (s : List Spot) (count i c : ℕ) (inv : Counts (put_many put_position (take n s) []) 46 count i (put_many put_position (drop i (take n s)) [])) (len : length s ≡ 20) (e : c ≡ min n 20) where
+module _ (l : List Spot) (count i : ℕ) (inv : Counts (put_many put_position l []) 46 count i (put_many put_position (drop i l) [])) where
   -- one more position
-  pub positions_count : (d : Spot) (r : ℕ) → i < c → Counted (put_position (get_or s i d) []) 46 r → Counts (put_many put_position (take n s) []) 46 (count + r) (i + 1) (put_many put_position (drop (i + 1) (take n s)) [])
-  positions_count d r h k = counts_again 46 count i r inv k (taken_next put_position position_append s n 20 c i [] len e d h)
+  pub positions_count : (d : Spot) (r : ℕ) → i < length l → Counted (put_position (get_or l i d) []) 46 r → Counts (put_many put_position l []) 46 (count + r) (i + 1) (put_many put_position (drop (i + 1) l) [])
+  positions_count d r h k = counts_again 46 count i r inv k (many_next put_position position_append l i d [] h)
 
   -- no more
-  pub positions_counted : c ≤ i → i ≤ 20 → Counted (put_many put_position (take n s) []) 920 count
+  pub positions_counted : length l ≤ i → i ≤ 20 → Counted (put_many put_position l []) 920 count
+  unfolding put_many
   positions_counted h k =
-      let f : length (put_many put_position (drop i (take n s)) []) ≡ 0 = ap length (taken_end put_position position_append s n 20 c i [] len e h) in
+      let f : length (put_many put_position (drop i l) []) ≡ 0 = rw (drop_of_length-le l h) refl in
       record { is = omega (arith, inv.is); small = omega (arith, inv.small) }
 
 -- ---- the row
 -- its word and the tab, two digits a byte, LF
-pub row_counted : (wide : ℕ) (seed : List ℕ) → length seed ≡ 600 → length (put_row (take wide seed) []) ≡ 5 + 2 * min wide 600
+pub row_counted : (bytes : List ℕ) → length (put_row bytes []) ≡ 5 + 2 * length bytes
 unfolding put_row
-row_counted wide seed e =
-    let a : length (take wide seed) ≡ min wide 600 = length-take wide seed ∙ ap (min wide) e in
-    omega (arith, pairs_length (take wide seed) (10 ∷ []))
+row_counted bytes = omega (arith, pairs_length bytes (10 ∷ []))
 
 -- ---- the text
 -- the word, the numbers, the positions and the row
-pub text_counted : (w h : ℕ) (t : State) (ns : List ℕ) (a b c : ℕ) → ns ≡ give_out JOB.members (parked_of w h t) → Counted (fields ns []) 337 a
-    → Counted (put_many put_position (take t.core.depth t.core.stack) []) 920 b → length t.core.seed ≡ 600 → c ≡ 5 + 2 * min (w / 8) 600 → ((3 + a) + b) + c ≡ length (write JOB (parked_of w h t))
-text_counted w h t ns a b c e x y z k =
-    let front = line JOB.word ns [] in
+pub text_counted : (w h : ℕ) (t : State) (a b c : ℕ) → Counted (fields (give_out JOB.members (parked_of w h t)) []) 337 a
+    → Counted (put_many put_position (take t.core.depth t.core.stack) []) 920 b → c ≡ 5 + 2 * length (take (w / 8) t.core.seed) → ((3 + a) + b) + c ≡ length (write JOB (parked_of w h t))
+text_counted w h t a b c x y k =
+    let front = line JOB.word (give_out JOB.members (parked_of w h t)) [] in
     let spots = put_many put_position (take t.core.depth t.core.stack) [] in
     let row = put_row (take (w / 8) t.core.seed) [] in
-    let u : length (write JOB (parked_of w h t)) ≡ length (front ++ (spots ++ row)) = rw e (ap length (write_parts w h t)) in
-    omega (arith, u, length-append front (spots ++ row), length-append spots row, x.is, y.is, row_counted (w / 8) t.core.seed z)
+    let u : length (write JOB (parked_of w h t)) ≡ length (front ++ (spots ++ row)) = ap length (write_parts w h t) in
+    omega (arith, u, length-append front (spots ++ row), length-append spots row, x.is, y.is, row_counted (take (w / 8) t.core.seed))

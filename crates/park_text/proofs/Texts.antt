@@ -1,11 +1,11 @@
 -- Laws of the lines of a text: a line in front of more is the line, and then more. Assumes nothing.
 use mathlib.Core.Path.{◌≡◌, refl, ap, sym, ◌∙◌}
 use mathlib.Core.List.{List, [], ◌∷◌, ◌++◌}
-use Prim.Native.Nat.{ℕ, ◌+◌, ◌*◌, ◌/◌, ◌≤◌, ◌<◌, min}
+use Prim.Native.Nat.{ℕ, zero, suc, ◌+◌, ◌*◌, ◌/◌, ◌≤◌, ◌<◌, min}
 use native.Mathlib.Omega.{arith}
 use native.Mathlib.Numerals.{add-one}
-use lib.ListN.{length, get_or, take, drop, length-take, drop_of_length-le}
-use lib.Seq.{drop-cons, get_or-take}
+use lib.ListN.{length, get_or, take, drop, drop_of_length-le}
+use lib.Seq.{drop-cons}
 use Rattle.common.proofs.Places.{cut}
 use Rattle.rules.specs.declared.State.{State}
 use Rattle.rules.specs.Forms.{parked_of, JOB}
@@ -15,6 +15,18 @@ use Rattle.rules.specs.Report.{fields, line}
 use Rattle.rules.specs.Texts.{put_many, POS, put_position, put_pair, put_row}
 use Rattle.number_write.proofs.Laws.{decimal_append}
 use Rattle.report_line.proofs.Texts.{line_append}
+
+take-nil : {A : Type 0} (n : ℕ) → take {A = A} n [] ≡ []
+take-nil zero = refl
+take-nil (suc n) = refl
+
+-- the first n elements of k
+pub take_min : {A : Type 0} (n k : ℕ) (l : List A) → length l ≡ k → take (min n k) l ≡ take n l
+take_min n zero [] e = let m : min n 0 ≡ 0 = omega arith in rw m (sym (take-nil n))
+take_min n zero (a ∷ l) e = absurd (omega arith)
+take_min zero (suc k) l e = let m : min 0 (suc k) ≡ 0 = omega arith in rw m refl
+take_min (suc n) (suc k) [] e = absurd (omega arith)
+take_min (suc n) (suc k) (a ∷ l) e = let m : min (suc n) (suc k) ≡ suc (min n k) = omega arith in rw m (ap (λ r. a ∷ r) (take_min n k l (omega arith)))
 
 -- a writer that puts its bytes in front and looks at nothing behind them
 abbrev pub Puts : {A : Type 0} → (A → List ℕ → List ℕ) → Type 0
@@ -33,21 +45,6 @@ module _ {A : Type 0} (put : A → List ℕ → List ℕ) (puts : Puts put) wher
   many_next l i d s h =
       ap (λ (m : List A). put_many put m s) (drop-cons l i d h ∙ ap (λ (k : ℕ). get_or l i d ∷ drop k l) (sym (add-one i)))
       ∙ puts (get_or l i d) [] (put_many put (drop (i + 1) l) s)
-
-  -- the first n elements of k: there are c of them
-  module _ (l : List A) (n k c i : ℕ) (s : List ℕ) (len : length l ≡ k) (e : c ≡ min n k) where
-    -- the bytes of the one at i, and those of the ones behind it
-    pub taken_next : (d : A) → i < c → put_many put (drop i (take n l)) s ≡ put (get_or l i d) [] ++ put_many put (drop (i + 1) (take n l)) s
-    taken_next d h =
-        let a : i < length (take n l) = simp length-take (omega arith) in
-        rw (get_or-take n l i d (omega arith)) at (many_next (take n l) i d s a)
-
-    -- none is left
-    pub taken_end : c ≤ i → put_many put (drop i (take n l)) s ≡ s
-    unfolding put_many
-    taken_end h =
-        let a : length (take n l) ≤ i = simp length-take (omega arith) in
-        rw (drop_of_length-le (take n l) a)
 
 -- the first of a line's numbers, and those behind it
 pub fields_first : (n : ℕ) (l s : List ℕ) → fields (n ∷ l) s ≡ (9 ∷ decimal n []) ++ fields l s

@@ -1,142 +1,116 @@
-// Paper 02, P1: the text of a state, line by line, into a room that is lent; and its length, counted before anything is written.
+// The text of a state, line by line; and its length, counted before anything is written.
 // Nothing is refused: what has no room is not written.
 #![tactic(auto)]
 
-ghost use Rattle.std.specs.Prelude.{◌≡◌, [], ◌∷◌, ◌+◌, ◌*◌, ◌≤◌, ◌<◌, min, length, take};
-ghost use Rattle.common.specs.Stores.{Wrote};
+ghost use Rattle.std.specs.Prelude.{◌≡◌, [], ◌∷◌, ◌+◌, ◌*◌, ◌/◌, ◌≤◌, ◌<◌, length, take};
+ghost use Rattle.common.specs.Writing.{Written};
 ghost use Rattle.plain_length.specs.Counts.{Counted};
 ghost use Rattle.rules.specs.Forms.{parked_of, JOB};
 ghost use Rattle.rules.specs.Park.{give_out, write};
 ghost use Rattle.rules.specs.Plain.{decimal};
-ghost use Rattle.rules.specs.Report.{fields, line};
+ghost use Rattle.rules.specs.Report.{fields};
 ghost use Rattle.rules.specs.Texts.{put_many, put_position, hex, put_pair, put_row};
 
-use common::{flag, least};
-use number_write::put_byte;
+use common::Writer;
 use plain_length::decimal_length;
-use report_line::{write_field, write_line, write_word};
-use rules::{Spot, State};
+use report_line::write_line;
+use rules::{Core, Spot, State};
 
 // The numbers of the line JOB, in their order.
-pub fn numbers_of(w: usize, h: usize, t: State) -> [usize; 16]
-    ensures { result ≡ give_out JOB.members (parked_of w h t) }
+pub fn numbers_of(w: usize, h: usize, t: &State) -> [usize; 16]
+    ensures { result ≡ give_out JOB.members (parked_of w h t.now) }
 {
-    let core = t.core;
-    let place = core.at;
+    let core = &t.core;
     let layout = core.layout;
     let raster = core.raster;
     [
         w,
         h,
-        place.x as usize,
-        place.y as usize,
+        core.at.x as usize,
+        core.at.y as usize,
         layout.left as usize,
         layout.right as usize,
         layout.top as usize,
         layout.hmi as usize,
         layout.vmi as usize,
-        layout.termination as usize,
-        raster.resolution as usize,
-        t.beside.method as usize,
-        flag(raster.started),
+        usize::from(layout.termination),
+        usize::from(raster.resolution),
+        usize::from(t.beside.method),
+        usize::from(raster.started),
         raster.margin as usize,
-        flag(core.used),
+        usize::from(core.used),
         core.depth,
     ]
 }
 
-// Numbers behind tabs, and LF.
-fn write_fields(numbers: &[usize], room: &mut [u8], at: usize) -> usize
-    ensures { Wrote room.old at (fields numbers.now []) room.new result }
+// The stacked positions, the deepest first.
+pub fn stacked(depth: usize, stack: &[Spot; 20]) -> &[Spot]
+    ensures value { result.now ≡ take depth stack.now }
+    ensures few { length result.now ≤ 20 }
 {
-    let mut next = at;
-    let mut i: usize = 0;
-    while i < numbers.len() {
-        next = write_field(numbers[i], room, next);
-        i += 1;
-    }
-    put_byte(10, room, next)
+    &stack[..depth.min(20)]
 }
 
-// A line: its word and its numbers.
-fn write_numbers(word: &[u8], numbers: &[usize], room: &mut [u8], at: usize) -> usize
-    ensures { Wrote room.old at (line word.now numbers.now []) room.new result }
+// The bytes of the seed row that a page of w dots has.
+pub fn seed_row(w: usize, core: &Core) -> &[u8]
+    ensures { result.now ≡ take (w / 8) core.now.seed }
 {
-    let behind = write_word(word, room, at);
-    write_fields(numbers, room, behind)
+    &core.seed[..(w / 8).min(600)]
 }
 
 // The line of a position.
-fn write_position(p: Spot, room: &mut [u8], at: usize) -> usize
-    ensures { Wrote room.old at (put_position p []) room.new result }
+#[tactic(auto, unfolding(rules::specs::Texts::put_position))]
+fn write_position(p: Spot, out: &mut Writer)
+    ensures { Written out.old (put_position p []) out.new }
 {
-    write_line(b"POS", p.x as usize, p.y as usize, room, at)
+    write_line(b"POS", &[p.x as usize, p.y as usize], out);
 }
 
-// A line for each stacked position, the deepest first.
-pub fn write_positions(depth: usize, stack: [Spot; 20], room: &mut [u8], at: usize) -> usize
-    ensures { Wrote room.old at (put_many put_position (take depth stack) []) room.new result }
+// A line for each position.
+pub fn write_positions(spots: &[Spot], out: &mut Writer)
+    ensures { Written out.old (put_many put_position spots.now []) out.new }
 {
-    let count = least(depth, 20);
-    let mut next = least(at, room.len());
-    let mut i: usize = 0;
-    while i < count {
-        let place = stack[i];
-        next = write_position(place, room, next);
-        i += 1;
+    for p in spots {
+        write_position(*p, out);
     }
-    next
 }
 
 // A capital hexadecimal digit.
+#[tactic(auto, unfolding(rules::specs::Texts::hex))]
 fn hex(n: u8) -> u8
     requires { n < 16 }
     ensures { result ≡ hex n }
 {
-    if n < 10 { 48 + n } else { 55 + n }
+    if n < 10 { b'0' + n } else { b'A' + n - 10 }
 }
 
 // The two digits of a byte.
-fn write_pair(b: u8, room: &mut [u8], at: usize) -> usize
-    ensures { Wrote room.old at (put_pair b []) room.new result }
+#[tactic(auto, unfolding(rules::specs::Texts::put_pair), using(common::proofs::Writing::written_both))]
+fn write_pair(b: u8, out: &mut Writer)
+    ensures { Written out.old (put_pair b []) out.new }
 {
-    let behind = put_byte(hex(b / 16), room, at);
-    put_byte(hex(b % 16), room, behind)
+    out.put(hex(b / 16));
+    out.put(hex(b % 16));
 }
 
-// The digits of the row's first bytes, and LF.
-fn write_pairs(wide: usize, seed: [u8; 600], room: &mut [u8], at: usize) -> usize
-    ensures { Wrote room.old at (put_many put_pair (take wide seed) (10 ∷ [])) room.new result }
+// The line of a row: the digits of its bytes behind its word, and LF.
+pub fn write_row(bytes: &[u8], out: &mut Writer)
+    ensures { Written out.old (put_row bytes.now []) out.new }
 {
-    let count = least(wide, 600);
-    let mut next = at;
-    let mut i: usize = 0;
-    while i < count {
-        next = write_pair(seed[i], room, next);
-        i += 1;
+    out.put_all(b"ROW\t");
+    for b in bytes {
+        write_pair(*b, out);
     }
-    put_byte(10, room, next)
+    out.put(b'\n');
 }
 
-// The line of the seed row.
-pub fn write_row(wide: usize, seed: [u8; 600], room: &mut [u8], at: usize) -> usize
-    ensures { Wrote room.old at (put_row (take wide seed) []) room.new result }
+// The text of a state on a page of w by h dots.
+pub fn write_text(w: usize, h: usize, t: &State, out: &mut Writer)
+    ensures { Written out.old (write JOB (parked_of w h t.now)) out.new }
 {
-    let behind = write_word(b"ROW\t", room, at);
-    write_pairs(wide, seed, room, behind)
-}
-
-// The text of a state on a page of w by h dots, written from the start of the room on.
-pub fn write_text(w: usize, h: usize, t: State, room: &mut [u8]) -> usize
-    ensures { Wrote room.old 0 (write JOB (parked_of w h t)) room.new result }
-{
-    let core = t.core;
-    let stack = core.stack;
-    let seed = core.seed;
-    let numbers = numbers_of(w, h, t);
-    let positions = write_numbers(b"JOB", &numbers, room, 0);
-    let row = write_positions(core.depth, stack, room, positions);
-    write_row(w / 8, seed, room, row)
+    write_line(b"JOB", &numbers_of(w, h, t), out);
+    write_positions(stacked(t.core.depth, &t.core.stack), out);
+    write_row(seed_row(w, &t.core), out);
 }
 
 // The length of a number behind a tab.
@@ -152,10 +126,8 @@ fn fields_length(numbers: &[usize]) -> usize
     ensures { Counted (fields numbers.now []) 337 result }
 {
     let mut count = 0;
-    let mut i: usize = 0;
-    while i < numbers.len() {
-        count += field_length(numbers[i]);
-        i += 1;
+    for n in numbers {
+        count += field_length(*n);
     }
     count + 1
 }
@@ -168,35 +140,24 @@ fn position_length(p: Spot) -> usize
 }
 
 // The length of the lines of the stacked positions.
-fn positions_length(depth: usize, stack: [Spot; 20]) -> usize
-    ensures { Counted (put_many put_position (take depth stack) []) 920 result }
+fn positions_length(core: &Core) -> usize
+    ensures { Counted (put_many put_position (take core.now.depth core.now.stack) []) 920 result }
 {
-    let most = least(depth, 20);
     let mut count = 0;
-    let mut i: usize = 0;
-    while i < most {
-        let p = stack[i];
-        count += position_length(p);
-        i += 1;
+    let spots = stacked(core.depth, &core.stack);
+    for p in spots {
+        count += position_length(*p);
     }
     count
 }
 
-// The length of the line of a seed row of which so many bytes are written.
-fn row_length(wide: usize) -> usize
-    ensures { result ≡ 5 + 2 * min wide 600 }
-{
-    5 + 2 * least(wide, 600)
-}
-
 // The length of the text of a state.
-pub fn text_length(w: usize, h: usize, t: State) -> usize
-    ensures { result ≡ length (write JOB (parked_of w h t)) }
+pub fn text_length(w: usize, h: usize, t: &State) -> usize
+    ensures { result ≡ length (write JOB (parked_of w h t.now)) }
 {
-    let core = t.core;
-    let stack = core.stack;
     let numbers = numbers_of(w, h, t);
     let job = 3 + fields_length(&numbers);
-    let positions = positions_length(core.depth, stack);
-    job + positions + row_length(w / 8)
+    let positions = positions_length(&t.core);
+    let row = 5 + 2 * seed_row(w, &t.core).len();
+    job + positions + row
 }

@@ -1,7 +1,7 @@
 -- What parking a state promises.
 use Rattle.std.specs.Prelude.{◌≡◌, List, ℕ}
 use Rattle.rules.specs.declared.State.{State}
-use Rattle.rules.specs.declared.Parking.{Parking}
+use Rattle.rules.specs.Given.{Parking}
 use Rattle.rules.specs.Park.{park}
 
 -- the answer and the room as the rules have them

@@ -4,20 +4,30 @@
 // only of a longer one.
 #![tactic(auto)]
 
-use given::Given;
 use rules::LONGEST_STREAM;
+use std::io;
 
 // A room for the longest plain stream, in zeros. A function of its own hides them: no proof can count so many.
 fn longest_room() -> [u8; LONGEST_STREAM] {
     [0u8; LONGEST_STREAM]
 }
 
-// What is said of a stream, a refusal on standard error; whether it was written.
-fn write_said(out: &impl Print, err: &impl Print, refused: bool, text: &[u8]) -> bool {
-    if refused {
-        return err.write_all(text).is_ok();
+// What is said of a stream: a refusal on standard error, its plain stream on standard output.
+fn write_plain(
+    out: &impl Print,
+    err: &impl Print,
+    w: usize,
+    h: usize,
+    job: &[u8],
+) -> io::Result<()> {
+    let mut room = longest_room();
+    let said = plain_say::say_plain(w, h, job, &mut room);
+    let text = &room[..said.end];
+    if said.refused {
+        err.write_all(text)
+    } else {
+        out.write_all(text)
     }
-    out.write_all(text).is_ok()
 }
 
 fn main(rt: HostRuntime) {
@@ -25,14 +35,7 @@ fn main(rt: HostRuntime) {
     let w = given::measure_word(&rt, 1, 2552);
     let h = given::measure_word(&rt, 2, 3304);
     let mut input = given::longest_input();
-    let Given::Job(n) = given::read_job(&mut rt.stdin(), &mut input) else {
-        let _ = err.write_all(b"UNREAD\n");
-        return;
-    };
-    let mut room = longest_room();
-    let said = plain_say::say_plain(w, h, &input[..n], &mut room);
-    let end = said.end;
-    if !write_said(&rt.stdout(), &err, said.refused, &room[..end]) {
-        let _ = err.write_all(b"UNWRITTEN\n");
-    }
+    given::answer(&mut rt.stdin(), &err, &mut input, |job| {
+        write_plain(&rt.stdout(), &err, w, h, job)
+    });
 }

@@ -1,69 +1,85 @@
 // Commands written plain: each as its own sequence, ended by a capital. Where the room ends, writing ends; nothing is written outside it.
 #![tactic(auto)]
 
-ghost use Rattle.std.specs.Prelude.{◌≡◌, []};
-ghost use Rattle.common.specs.Stores.{Wrote};
+ghost use Rattle.std.specs.Prelude.{◌≡◌, not, [], ◌∷◌};
+ghost use Rattle.common.specs.Writing.{Written};
 ghost use Rattle.rules.specs.Acts.{order};
-ghost use Rattle.rules.specs.Plain.{put};
+ghost use Rattle.rules.specs.Commands.{use_of};
+ghost use Rattle.rules.specs.Plain.{is_ignored, put, put_used};
 ghost use Rattle.plain_length.specs.Counts.{Counted};
-ghost use Rattle.plain_command.specs.Plain.{named};
+ghost use Rattle.plain_command.specs.Plain.{name_bytes};
 
-use number_write::put_byte;
+use common::Writer;
 use plain_head::write_start;
 use rules::{Kind, Value};
 
-// The three bytes that name a command, and whether a value is written among them.
-#[derive(Drop)]
-struct Named(u8, u8, u8, bool);
-
-// How a kind of command is written; *rB and *rC have no value.
-fn name_of(k: Kind) -> Named
-    ensures { result ≡ named k }
+// The first byte, the group byte and the letter of a kind of command.
+fn name_of(k: Kind) -> [u8; 3]
+    ensures { result ≡ name_bytes k }
 {
     match k {
-        Kind::Column => Named(b'&', b'a', b'C', true),
-        Kind::DecipointAcross => Named(b'&', b'a', b'H', true),
-        Kind::DotAcross => Named(b'*', b'p', b'X', true),
-        Kind::DecipointDown => Named(b'&', b'a', b'V', true),
-        Kind::DotDown => Named(b'*', b'p', b'Y', true),
-        Kind::Line => Named(b'&', b'a', b'R', true),
-        Kind::LeftMargin => Named(b'&', b'a', b'L', true),
-        Kind::RightMargin => Named(b'&', b'a', b'M', true),
-        Kind::TopMargin => Named(b'&', b'l', b'E', true),
-        Kind::Vmi => Named(b'&', b'l', b'C', true),
-        Kind::LinesPerInch => Named(b'&', b'l', b'D', true),
-        Kind::Hmi => Named(b'&', b'k', b'H', true),
-        Kind::Termination => Named(b'&', b'k', b'G', true),
-        Kind::PushPop => Named(b'&', b'f', b'S', true),
-        Kind::Resolution => Named(b'*', b't', b'R', true),
-        Kind::StartRaster => Named(b'*', b'r', b'A', true),
-        Kind::EndRaster => Named(b'*', b'r', b'B', false),
-        Kind::ResetRaster => Named(b'*', b'r', b'C', false),
-        Kind::SkipRows => Named(b'*', b'b', b'Y', true),
+        Kind::Column => *b"&aC",
+        Kind::DecipointAcross => *b"&aH",
+        Kind::DotAcross => *b"*pX",
+        Kind::DecipointDown => *b"&aV",
+        Kind::DotDown => *b"*pY",
+        Kind::Line => *b"&aR",
+        Kind::LeftMargin => *b"&aL",
+        Kind::RightMargin => *b"&aM",
+        Kind::TopMargin => *b"&lE",
+        Kind::Vmi => *b"&lC",
+        Kind::LinesPerInch => *b"&lD",
+        Kind::Hmi => *b"&kH",
+        Kind::Termination => *b"&kG",
+        Kind::PushPop => *b"&fS",
+        Kind::Resolution => *b"*tR",
+        Kind::StartRaster => *b"*rA",
+        Kind::EndRaster => *b"*rB",
+        Kind::ResetRaster => *b"*rC",
+        Kind::SkipRows => *b"*bY",
     }
 }
 
-// A command with its value, written at a place; the next place is given.
-pub fn write_command(k: Kind, v: Value, room: &mut [u8], at: usize) -> usize
-    ensures { Wrote room.old at (put (order k v) []) room.new result }
+// Whether a command is written with its value: *rB and *rC have none.
+fn has_value(k: Kind) -> bool
+    ensures { result ≡ not (is_ignored (use_of k)) }
 {
-    let by = name_of(k);
-    let letter = by.2;
-    let behind = write_start(by.0, by.1, room, at);
-    if by.3 {
-        let end = number_write::write_value(v, room, behind);
-        return put_byte(letter, room, end);
+    !matches!(k, Kind::EndRaster | Kind::ResetRaster)
+}
+
+// The value of a command, where it is written.
+fn write_used(k: Kind, v: Value, out: &mut Writer)
+    ensures { Written out.old (put_used k v []) out.new }
+{
+    if has_value(k) {
+        number_write::write_value(v, out);
     }
-    put_byte(letter, room, behind)
+}
+
+// A command with its value.
+pub fn write_command(k: Kind, v: Value, out: &mut Writer)
+    ensures { Written out.old (put (order k v) []) out.new }
+{
+    let [first, group, letter] = name_of(k);
+    write_start(first, group, out);
+    write_used(k, v, out);
+    out.put(letter);
+}
+
+// The length of that value.
+fn used_length(k: Kind, v: Value) -> usize
+    ensures { Counted (put_used k v []) 26 result }
+{
+    if has_value(k) {
+        plain_length::value_length(v)
+    } else {
+        0
+    }
 }
 
 // The length of a command with its value.
 pub fn command_length(k: Kind, v: Value) -> usize
     ensures { Counted (put (order k v) []) 30 result }
 {
-    let name = name_of(k);
-    if name.3 {
-        return 4 + plain_length::value_length(v);
-    }
-    4
+    4 + used_length(k, v)
 }

@@ -1,12 +1,9 @@
 -- Laws of heads written plain: their texts, piece by piece, and the lengths of these. Assumes nothing.
-use mathlib.Core.Path.{◌≡◌, sym, ap}
-use mathlib.Core.List.{List, [], ◌∷◌, ◌++◌}
-use Prim.Native.Nat.{ℕ, ◌+◌}
-use native.Mathlib.Omega.{arith}
-use lib.ListN.{length, length-append}
+use Rattle.std.proofs.Common.{◌≡◌, sym, ap, List, [], ◌∷◌, ◌++◌, ℕ, ◌+◌, arith, length, length-append}
 use Rattle.common.specs.Lists.{trim}
-use Rattle.common.specs.Stores.{Wrote}
-use Rattle.common.proofs.Stores.{wrote_both}
+use Rattle.common.specs.declared.writer.Writer.{Writer}
+use Rattle.common.specs.Writing.{Written}
+use Rattle.common.proofs.Writing.{written_both}
 use Rattle.rules.specs.Commands.{Spelling, spelling, print_spelled, row_spelled}
 use Rattle.rules.specs.Acts.{print, draw}
 use Rattle.rules.specs.Plain.{decimal, put, put_counted}
@@ -14,24 +11,15 @@ use Rattle.plain_length.specs.Counts.{Counted}
 use Rattle.number_write.proofs.Laws.{decimal_append}
 use Rattle.plain_head.specs.Heads.{head_of, HeadLength}
 
-module _ {l l1 l2 l3 : List ℕ} {at a b r : ℕ} where
-  -- three bytes, one behind another
-  pub wrote_three : {x y z : ℕ} → Wrote l at (x ∷ []) l1 a → Wrote l1 a (y ∷ []) l2 b → Wrote l2 b (z ∷ []) l3 r → Wrote l at (x ∷ y ∷ z ∷ []) l3 r
-  wrote_three p q s = wrote_both (wrote_both p q) s
-
-  -- three bytes, a text and a letter
-  pub wrote_through : {x y z c : ℕ} (u : List ℕ) → Wrote l at (x ∷ y ∷ z ∷ []) l1 a → Wrote l1 a u l2 b → Wrote l2 b (c ∷ []) l3 r → Wrote l at (x ∷ y ∷ z ∷ (u ++ (c ∷ []))) l3 r
-  wrote_through u p q s = wrote_both (wrote_both p q) s
-
 -- the count is written before the letter
 head_text : (p : Spelling) (n : ℕ) → 27 ∷ p.first ∷ p.group ∷ (decimal n [] ++ (p.letter ∷ [])) ≡ head_of p n
 unfolding head_of
 head_text p n = ap (λ (s : List ℕ). 27 ∷ p.first ∷ p.group ∷ s) (sym (decimal_append n [] (p.letter ∷ [])))
 
 -- a head is written
-pub wrote_head : {l l1 l2 l3 : List ℕ} {at a b r : ℕ} (f g c n : ℕ) → Wrote l at (27 ∷ f ∷ g ∷ []) l1 a → Wrote l1 a (decimal n []) l2 b → Wrote l2 b (c ∷ []) l3 r
-    → Wrote l at (head_of (spelling f g c) n) l3 r
-wrote_head f g c n p q s = rw (head_text (spelling f g c) n) at (wrote_through (decimal n []) p q s)
+pub wrote_head : {a b c d : Writer} (f g x n : ℕ) → Written a (27 ∷ f ∷ g ∷ []) b → Written b (decimal n []) c → Written c (x ∷ []) d
+    → Written a (head_of (spelling f g x) n) d
+wrote_head f g x n p q s = rw (head_text (spelling f g x) n) at (written_both p (written_both q s))
 
 -- the length of a head, whatever its letters
 length_head : (p : Spelling) (n m : ℕ) → m ≡ length (decimal n []) → 4 + m ≡ length (head_of p n)

@@ -2,42 +2,40 @@
 #![tactic(auto)]
 
 ghost use Rattle.std.specs.Prelude.{[], ◌∷◌};
-ghost use Rattle.common.specs.Stores.{Wrote};
+ghost use Rattle.common.specs.Writing.{Written};
 ghost use Rattle.rules.specs.Commands.{spelling, print_spelled, row_spelled};
 ghost use Rattle.plain_head.specs.Heads.{head_of, HeadLength};
 
-use number_write::put_byte;
+use common::Writer;
 
-// ESC, a first byte and a group byte, written at a place; the next place is given.
-pub fn write_start(first: u8, group: u8, room: &mut [u8], at: usize) -> usize
-    ensures { Wrote room.old at (27 ∷ first ∷ group ∷ []) room.new result }
+// ESC, a first byte and a group byte.
+pub fn write_start(first: u8, group: u8, out: &mut Writer)
+    ensures { Written out.old (27 ∷ first ∷ group ∷ []) out.new }
 {
-    let second = put_byte(27, room, at);
-    let third = put_byte(first, room, second);
-    put_byte(group, room, third)
+    out.put_all(&[27, first, group]);
 }
 
-// The head of a command with n bytes of payload, written at a place; the next place is given.
-fn write_head(first: u8, group: u8, letter: u8, n: usize, room: &mut [u8], at: usize) -> usize
-    ensures { Wrote room.old at (head_of (spelling first group letter) n) room.new result }
+// The head of a command with n bytes of payload.
+fn write_head(first: u8, group: u8, letter: u8, n: usize, out: &mut Writer)
+    ensures { Written out.old (head_of (spelling first group letter) n) out.new }
 {
-    let behind = write_start(first, group, room, at);
-    let end = number_write::write_decimal(n, room, behind);
-    put_byte(letter, room, end)
+    write_start(first, group, out);
+    number_write::write_decimal(n, out);
+    out.put(letter);
 }
 
 // The head of &p#X for n bytes of payload.
-pub fn write_print_head(n: usize, room: &mut [u8], at: usize) -> usize
-    ensures { Wrote room.old at (head_of print_spelled n) room.new result }
+pub fn write_print_head(n: usize, out: &mut Writer)
+    ensures { Written out.old (head_of print_spelled n) out.new }
 {
-    write_head(b'&', b'p', b'X', n, room, at)
+    write_head(b'&', b'p', b'X', n, out);
 }
 
 // The head of *b#W for n bytes of payload.
-pub fn write_row_head(n: usize, room: &mut [u8], at: usize) -> usize
-    ensures { Wrote room.old at (head_of row_spelled n) room.new result }
+pub fn write_row_head(n: usize, out: &mut Writer)
+    ensures { Written out.old (head_of row_spelled n) out.new }
 {
-    write_head(b'*', b'b', b'W', n, room, at)
+    write_head(b'*', b'b', b'W', n, out);
 }
 
 // The length of such a head.

@@ -11,6 +11,7 @@ ghost use Rattle.rules.specs.Plain.{put};
 ghost use Rattle.read_item.specs.Items.{item_in, from_of, to_of};
 ghost use Rattle.plain_item.specs.Plain.{PutsShort, plain_command, plain_item};
 
+use common::Writer;
 use do_value::{used_value, whole_negative};
 use dot_ink::used;
 use number_finding::is_clean;
@@ -30,7 +31,8 @@ fn write_order(k: Kind, v: Value, room: &mut [u8], at: usize) -> usize
     if room.len() <= at {
         return at + n;
     }
-    write_command(k, v, room, at);
+    let mut out = Writer { room, at };
+    write_command(k, v, &mut out);
     at + n
 }
 
@@ -59,7 +61,8 @@ fn write_print(v: Value, payload: &[u8], room: &mut [u8], at: usize) -> usize
     if room.len() <= at {
         return behind + n;
     }
-    write_print_head(n, room, at);
+    let mut out = Writer { room, at };
+    write_print_head(n, &mut out);
     copy(room, behind, payload, 0, n);
     behind + n
 }
@@ -91,7 +94,8 @@ fn write_row(v: Value, row: &[u8], room: &mut [u8], at: usize) -> usize
     if room.len() <= at {
         return behind + n;
     }
-    write_row_head(n, room, at);
+    let mut out = Writer { room, at };
+    write_row_head(n, &mut out);
     copy(room, behind, row, 0, n);
     behind + n
 }

@@ -1,16 +1,10 @@
 -- Numbers and values as they are written, counted. Assumes nothing.
-use mathlib.Core.Path.{◌≡◌, refl, ap}
-use mathlib.Core.Bool.{Bool}
-use mathlib.Core.List.{[], ◌∷◌}
-use Prim.Native.Nat.{ℕ, suc, ◌+◌, ◌/◌, ◌%◌, ◌^◌, ◌≤◌, ◌<◌}
-use native.Mathlib.Omega.{arith}
-use lib.ListN.{length, length-append}
-use borrow.Author.Tests.{eq-eqb, ne_eqb}
+use Rattle.std.proofs.Common.{◌≡◌, ap, Bool, [], ◌∷◌, ℕ, suc, ◌+◌, ◌/◌, ◌%◌, ◌^◌, ◌≤◌, ◌<◌, arith, length, length-append, get_or, eq-eqb, ne_eqb}
 use Rattle.rules.specs.declared.Value.{Value}
 use Rattle.rules.specs.declared.Value.TheVariants.{Absolute, Relative}
 use Rattle.rules.specs.Plain.{decimal, places_up_to, put_size, put_value}
 use Rattle.number_write.proofs.Laws.{decimal_append, decimal_digit, decimal_last, decimal_some}
-use Rattle.number_write.proofs.Places.{Weighed, weighed, place, places_none, places_some}
+use Rattle.number_write.proofs.Places.{weights, places_from, Low, places_none, places_some, low_behind, low_end}
 use Rattle.plain_length.specs.Counts.{Counted}
 
 -- ---- decimal
@@ -49,31 +43,36 @@ module _ (n count left : ℕ) (inv : Numbering n count left) where
 
 -- ---- places behind a point
 
--- the loop that counts places: those counted, and those of what is left, are all
-pub record Remaining (n count left weight : ℕ) : Type 0 where
-  pub places : ℕ
-  pub weighed : Weighed places weight left
-  pub total : count + places ≡ 4
-  pub is : length (places_up_to 4 1000 n []) ≡ length (places_up_to places weight left []) + count
+-- the loop that counts places: those before the k-th are counted, and those from it on are left
+pub record Remaining (n count left k : ℕ) : Type 0 where
+  pub low : Low k left
+  pub so_far : count ≡ k
+  pub is : length (places_up_to 4 1000 n []) ≡ length (places_from k left) + count
+  pub done : left ≡ 0 → Counted (places_up_to 4 1000 n []) 4 count
 
--- nothing is counted yet
-pub remaining_start : (n : ℕ) → n < 10000 → Remaining n 0 n 1000
-remaining_start n h = record { places = 4; weighed = weighed 4 1000 n refl h; total = refl; is = omega arith }
+-- where nothing is left they are
+remaining : {n count left k : ℕ} → k ≤ 4 → Low k left → count ≡ k → length (places_up_to 4 1000 n []) ≡ length (places_from k left) + count → Remaining n count left k
+remaining {left = left} {k = k} h l e i = record {
+  low = l;
+  so_far = e;
+  is = i;
+  done = λ z. let o : length (places_from k left) ≡ 0 = ap length (places_none k left h z) in record { is = omega arith; small = omega arith };
+}
 
-module _ (n count left weight : ℕ) (inv : Remaining n count left weight) where
+-- none is counted yet
+pub remaining_start : (n : ℕ) → n < 10000 → Remaining n 0 n 0
+remaining_start n h = remaining (omega arith) h (omega arith) (omega arith)
+
+module _ {n count left k : ℕ} (inv : Remaining n count left k) where
   -- one more place
-  pub remaining_again : 0 < left → Remaining n (count + 1) (left % weight) (weight / 10)
-  remaining_again h =
-      let p = place inv.places weight left inv.weighed h in
-      let e : length (places_up_to inv.places weight left []) ≡ suc (length (places_up_to p.less (weight / 10) (left % weight) [])) =
-      ap length (places_some inv.places p.less weight left [] p.is h) in
-      record { places = p.less; weighed = p.behind; total = omega (arith, inv.total, p.is); is = omega (arith, inv.is) }
+  pub remaining_again : k < 4 → (left ≡ 0 → ⊥) → Remaining n (count + 1) (left % get_or weights k 0) (k + 1)
+  remaining_again h z =
+      let e : length (places_from k left) ≡ suc (length (places_from (k + 1) (left % get_or weights k 0))) = ap length (places_some k left h z) in
+      remaining (omega arith) (low_behind k left h) (omega (arith, inv.so_far)) (omega (arith, inv.is))
 
-  -- no more places
-  pub remaining_end : left ≤ 0 → Counted (places_up_to 4 1000 n []) 4 count
-  remaining_end h =
-      let e : length (places_up_to inv.places weight left []) ≡ 0 = rw (places_none inv.places weight left [] h) in
-      record { is = omega (arith, inv.is); small = omega (arith, inv.total) }
+  -- no place is left
+  pub remaining_end : 4 ≤ k → k ≤ 4 → Counted (places_up_to 4 1000 n []) 4 count
+  remaining_end h j = inv.done (low_end k left h j inv.low)
 
 -- ---- a size
 

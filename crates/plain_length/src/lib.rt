@@ -7,30 +7,31 @@ ghost use Rattle.plain_length.specs.Counts.{Counted};
 
 use rules::Value;
 
-// How many digits a number has in decimal.
+// How many digits a number has in decimal. The loop goes by the number, until one digit is left.
 pub fn decimal_length(n: usize) -> usize
     ensures { Counted (decimal n []) 20 result }
 {
     let mut count = 1;
     let mut left = n;
     while 10 <= left {
-        left = left / 10;
+        left /= 10;
         count += 1;
     }
     count
 }
 
-// How many places are written behind a point.
+// How many places are written behind a point: none where nothing is left.
 fn places_length(n: u32) -> usize
     requires { n < 10000 }
     ensures { Counted (places_up_to 4 1000 n []) 4 result }
 {
     let mut count = 0;
-    let mut rest = n;
-    let mut unit: u32 = 1000;
-    while 0 < rest {
-        rest = rest % unit;
-        unit = unit / 10;
+    let mut left = n;
+    for unit in [1000, 100, 10, 1] {
+        if left == 0 {
+            return count;
+        }
+        left %= unit;
         count += 1;
     }
     count

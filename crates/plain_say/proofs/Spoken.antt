@@ -7,13 +7,14 @@ use lib.Dec.{ltb}
 use lib.ListN.{length, drop}
 use borrow.Author.Tests.{ltb-false}
 use Rattle.rules.specs.declared.Refusal.TheVariants.{PageMeasure, StreamLength, Room}
-use Rattle.rules.specs.declared.Verdict.TheVariants.{Carried}
-use Rattle.rules.specs.declared.Translated.{Translated}
+use Rattle.std.specs.Prelude.{Result, Ok, Err}
+use Rattle.rules.specs.declared.Refusal.{Refusal}
+use Rattle.rules.specs.Given.{Carried, verdict_of}
 use Rattle.rules.specs.Measure.{allowed, measure_of, is_too_long}
-use Rattle.rules.specs.Plain.{plain, Translation, translation, refused_room, no_room, translate}
+use Rattle.rules.specs.Plain.{plain, Translation, translation, refused_room, no_room, translated, translate}
 use Rattle.theorems.specs.Statements.{TranslatePromise}
 use Rattle.report_verdict.specs.declared.Saying.{Saying}
-use Rattle.report_verdict.specs.Said.{SaysVerdict, Leaves}
+use Rattle.report_verdict.specs.Said.{SaysVerdict, Leaves, length_of}
 use Rattle.report_verdict.proofs.Spoken.{left_whole, said_of, one_said}
 use Rattle.plain_say.specs.Said.{Says, OneSaying}
 
@@ -40,9 +41,14 @@ module _ (W H : ℕ) (s room : List ℕ) where
       go false false true e = refl
       go false false false e = left_whole text room (ltb-false (length room) (length text) (or_left (ltb (length room) (length text)) (is_too_long text) e))
 
+  -- the verdict and the length that a program gives are those of the translation
+  told : (o : Result ℕ Refusal) (left : List ℕ) (r : Saying) (after : List ℕ) → SaysVerdict (verdict_of o) (length_of o) left r after → SaysVerdict (translated o).verdict (translated o).length left r after
+  told (Ok n) left r after y = y
+  told (Err why) left r after y = y
+
   -- what is said by its answer is said of the plain stream
-  pub plain_said : (o : Translated) (left : List ℕ) (r : Saying) (after : List ℕ) → TranslatePromise W H s room o left → SaysVerdict o.verdict o.length left r after → Says W H s room r after
-  plain_said o left r after h y = said_of _ _ text room (translate W H s room).room r after left_there (rw (h.given, h.lent) at y)
+  pub plain_said : (o : Result ℕ Refusal) (left : List ℕ) (r : Saying) (after : List ℕ) → TranslatePromise W H s room (translated o) left → SaysVerdict (verdict_of o) (length_of o) left r after → Says W H s room r after
+  plain_said o left r after h y = said_of _ _ text room (translate W H s room).room r after left_there (rw (h.given, h.lent) at (told o left r after y))
 
 -- one saying
 pub one_saying : OneSaying

@@ -1,6 +1,6 @@
 -- What the program `plain` says: the plain stream, or "a refusal .. in one line", REFUSED and its number.
 use Rattle.std.specs.Prelude.{◌≡◌, List, ℕ}
-use Rattle.rules.specs.declared.Verdict.{Verdict}
+use Rattle.rules.specs.Given.{Verdict}
 use Rattle.rules.specs.Measure.{measure_of}
 use Rattle.rules.specs.Plain.{plain, translate}
 use Rattle.report_verdict.specs.declared.Saying.{Saying}

@@ -10,7 +10,6 @@ use report_verdict::{Saying, say};
 pub fn say_plain(w: usize, h: usize, s: &[u8], room: &mut [u8]) -> Saying
     ensures { Says w h s.now room.old result room.new }
 {
-    let r = translate(w, h, s, room);
-    let verdict = r.verdict;
-    say(verdict, r.length, room)
+    let outcome = translate(w, h, s, room);
+    say(outcome, room)
 }

@@ -15,10 +15,9 @@ pub fn write_one(b: u8, room: &mut [u8], at: usize) -> usize
     requires { at ≤ 1099511627776 }
     ensures { Puts room.old at (b ∷ []) room.new result }
 {
-    if room.len() <= at {
-        return at + 1;
+    if at < room.len() {
+        room[at] = b;
     }
-    room[at] = b;
     at + 1
 }
 
@@ -35,14 +34,7 @@ fn write_two(b: u8, room: &mut [u8], at: usize) -> usize
 fn is_carried(b: u8) -> bool
     ensures { result ≡ one_of carried_codes b }
 {
-    match b {
-        13 => true,
-        10 => true,
-        12 => true,
-        8 => true,
-        9 => true,
-        _ => false,
-    }
+    matches!(b, 8 | 9 | 10 | 12 | 13)
 }
 
 // A control code, unless it is ignored.

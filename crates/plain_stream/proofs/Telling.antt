@@ -4,7 +4,7 @@ use mathlib.Core.Bool.{Bool, true, false, cond, false≢true}
 use mathlib.Core.List.{List, [], ◌∷◌, ◌++◌, append-nil, append_assoc}
 use Prim.Native.Nat.{ℕ, zero, suc, ◌+◌, ◌*◌, ◌-◌, ◌≤◌, ◌<◌}
 use native.Mathlib.Omega.{arith}
-use native.Mathlib.Nat.{add-zero, sub-zero}
+use native.Mathlib.Nat.{add-zero}
 use lib.Dec.{ltb}
 use lib.ListN.{length, length-append, take, drop, get_or}
 use lib.Seq.{length-sets}
@@ -14,7 +14,6 @@ use Rattle.common.proofs.Places.{cut}
 use Rattle.rules.specs.declared.Measure.{Measure}
 use Rattle.rules.specs.declared.Sequence.{Sequence}
 use Rattle.rules.specs.declared.Sequence.TheVariants.{Closed, Open}
-use Rattle.rules.specs.declared.Finding.{Finding}
 use Rattle.rules.specs.declared.Finding.TheVariants.{Nothing}
 use Rattle.rules.specs.declared.Core.{Core}
 use Rattle.rules.specs.declared.Beside.{Beside}
@@ -110,10 +109,6 @@ module _ (g : Measure) (t : State) (s : List ℕ) where
   unfolding trace acts_of
   trace_more zero p e = absurd (omega arith)
   trace_more (suc n) p e = let z : suc n - 1 ≡ n = omega arith in rw (e, z)
-
--- a part that begins at the front
-pub front_done : {room after : List ℕ} {at r : ℕ} (i : rule.Item) (f : Finding) (w : ℕ) (d : List ℕ) → PutsShort room at (plain_item i f (take (w - 0) (drop 0 d))) after r → PutsShort room at (plain_item i f (take w d)) after r
-front_done i f w d h = rw (sub-zero w) at h
 
 -- so much of what a walk writes is written, and what is left of the stream tells the rest
 pub record Telling (g : Measure) (most : ℕ) (s before : List ℕ) (t : State) (at : ℕ) (room : List ℕ) (end : ℕ) : Type 0 where

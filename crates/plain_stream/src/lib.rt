@@ -14,7 +14,7 @@ use do_item::do_item;
 use plain_item::write_item;
 use plain_short::write_one;
 use read_item::{Item, read_item};
-use rules::{Finding, Measure};
+use rules::{Finding, Page};
 use run_items::{is_over, text_next};
 use state_afresh::afresh;
 use state_pen::pen_of;
@@ -32,24 +32,25 @@ fn write_done(
     requires { (from_of i ≤ to_of i) × (to_of i ≤ length s.now) × (to_of i ≤ from_of i + 32767) × (wide ≤ 600) × (wide ≤ length seed.now) × (at ≤ 1099511627775) }
     ensures { PutsShort room.old at (plain_item (item_in s.now i) f (take wide seed.now)) room.new result }
 {
-    write_item(s, i, f, &seed[0..wide], room, at)
+    write_item(s, i, f, &seed[..wide], room, at)
 }
 
 // The stream walked from its start, afresh, to its end: text is written here, all else is done by `do_item`. What is drawn falls on a page of no bytes.
 // What an item means hangs on no cursor, so text does not move the pen here, and there is no stack: a pop leaves the pen where it is, and its depth is
 // what counts. The walk ends early, behind the item with which more than `most` bytes are written.
-pub fn write_stream(g: Measure, s: &[u8], room: &mut [u8], most: usize) -> usize
+pub fn write_stream(g: Page, s: &[u8], room: &mut [u8], most: usize) -> usize
     requires { Fits g × (length s.now ≤ longest_stream) }
     ensures { Puts room.old 0 (walked g most s.now) room.new result }
 {
     let t = afresh(g);
-    let core = t.core;
-    let mut pen = pen_of(core);
-    let mut seed = core.seed;
+    let mut pen = pen_of(t.core);
+    let mut seed = t.core.seed;
     let mut beside = t.beside;
     let mut sequence = t.sequence;
-    let mut at: usize = 0;
-    let mut end: usize = 0;
+    let mut at = 0;
+    let mut end = 0;
+    // A turn takes one item, so its step is the item's own. The room is no Writer's: a walk counts also what the room does not hold, and `write_stream` is
+    // to say how long the plain stream is whatever the room.
     loop {
         if most < end {
             return end;
@@ -63,13 +64,11 @@ pub fn write_stream(g: Measure, s: &[u8], room: &mut [u8], most: usize) -> usize
             return end;
         }
         let r = read_item(s, at, sequence);
-        let item = r.item;
-        let d = do_item(&mut room[0..0], g, s, item, pen, beside, &mut seed);
-        let finding = d.finding;
+        let d = do_item(&mut room[0..0], g, s, r.item, pen, beside, &mut seed);
         pen = d.pen;
         beside = d.beside;
         sequence = r.sequence;
         at = r.next;
-        end = write_done(s, item, finding, &seed, g.wide, room, end);
+        end = write_done(s, r.item, d.finding, &seed, g.wide(), room, end);
     }
 }

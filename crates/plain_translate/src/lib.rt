@@ -2,44 +2,27 @@
 // nothing is written where the room is short.
 #![tactic(auto)]
 
-ghost use Rattle.std.specs.Prelude.{◌≡◌, List, ℕ};
-ghost use Rattle.rules.specs.Plain.{refused_room};
+ghost use Rattle.rules.specs.Plain.{translated};
 ghost use Rattle.theorems.specs.Statements.{TranslatePromise};
 
-use common::least;
 use plain_stream::write_stream;
-use rules::{LONGEST_STREAM, Refusal, Translated, Verdict};
-use state_page::{allowed, measure_of};
+use rules::{LONGEST_STREAM, Refusal};
+use state_page::page_of;
 
-// A refused call: no byte of the room is written, and the length is 0.
-fn refuse(why: Refusal) -> Translated
-    ensures { (room : List ℕ) → result ≡ (refused_room why room).given }
+// The plain stream of the stream s on a page of w by h dots, written to the front of the room: its length. Refusals 10, 12, 15 are checked in that order;
+// of a call that is refused no byte of the room is written.
+pub fn translate(w: usize, h: usize, s: &[u8], room: &mut [u8]) -> Result<usize, Refusal>
+    ensures { TranslatePromise w h s.now room.old (translated result) room.new }
 {
-    Translated {
-        verdict: Verdict::Refused(why),
-        length: 0,
-    }
-}
-
-// The plain stream of the stream s on a page of w by h dots, written to the front of the room. Refusals 10, 12, 15 are checked in that order.
-pub fn translate(w: usize, h: usize, s: &[u8], room: &mut [u8]) -> Translated
-    ensures { TranslatePromise w h s.now room.old result room.new }
-{
-    if !allowed(w, h) {
-        return refuse(Refusal::PageMeasure);
-    }
+    let g = page_of(w, h).ok_or(Refusal::PageMeasure)?;
     if LONGEST_STREAM < s.len() {
-        return refuse(Refusal::StreamLength);
+        return Err(Refusal::StreamLength);
     }
-    let g = measure_of(w, h);
-    let most = least(room.len(), LONGEST_STREAM);
+    let most = room.len().min(LONGEST_STREAM);
     let n = write_stream(g, s, &mut room[0..0], most);
     if most < n {
-        return refuse(Refusal::Room);
+        return Err(Refusal::Room);
     }
     write_stream(g, s, room, most);
-    Translated {
-        verdict: Verdict::Carried,
-        length: n,
-    }
+    Ok(n)
 }

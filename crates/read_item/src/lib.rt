@@ -7,11 +7,14 @@ ghost use Rattle.rules.specs.Items.{ends_inside, payload, letter, parameter, gro
 ghost use Rattle.read_item.specs.Items.{up_to, ItemAt, Begins};
 
 use read_command::choose;
-use read_letter::{Ending, asked_by, ending_of};
+use read_letter::{Letter, Opening, asked_by, ending_of};
 use rules::{Command, Finding, Sequence, Value};
 
+// The byte before each two-byte command and each sequence.
+const ESC: u8 = 27;
+
 // An item: text, a control code, a two-byte command, a command whose payload lies in the stream, or a broken piece.
-#[derive(Clone, Copy)]
+#[derive(Clone, Copy, PartialEq, Eq)]
 pub enum Item {
     Text(u8),
     Code(u8),
@@ -25,7 +28,7 @@ pub enum Item {
 }
 
 // An item, the sequence that is open behind it, and the place behind it.
-#[derive(Clone, Copy)]
+#[derive(Clone, Copy, PartialEq, Eq)]
 pub struct ReadItem {
     pub item: Item,
     pub sequence: Sequence,
@@ -35,7 +38,7 @@ pub struct ReadItem {
 // The beginning of an item: a sequence, whose value begins at a place, or an item that is read as a whole.
 #[derive(Clone, Copy)]
 enum Begun {
-    Sequence { first: u8, group: u8, from: usize },
+    Sequence { opening: Opening, from: usize },
     Read(ReadItem),
 }
 
@@ -51,81 +54,66 @@ fn ends_inside(s: &[u8]) -> ReadItem
 }
 
 // A command whose letter has been read, with its payload, which begins at the place.
-fn payload_at(
-    s: &[u8],
-    at: usize,
-    first: u8,
-    group: u8,
-    letter: u8,
-    v: Value,
-    q: Sequence,
-) -> ReadItem
+fn payload_at(s: &[u8], at: usize, opening: Opening, letter: Letter, v: Value) -> ReadItem
     requires { at ≤ length s.now }
-    ensures { result ≡ up_to (length s.now) (payload first group letter v q (drop at s.now)) }
+    ensures { result ≡ up_to (length s.now) (payload opening.first opening.group letter.capital v letter.behind (drop at s.now)) }
 {
-    let n = asked_by(first, group, letter, v);
+    let n = asked_by(opening, letter.capital, v);
     if s.len() - at < n {
         return ends_inside(s);
     }
     let to = at + n;
-    let command = choose(first, group, letter, v);
     ReadItem {
         item: Item::Command {
-            command,
+            command: choose(opening.first, opening.group, letter.capital, v),
             from: at,
             to,
         },
-        sequence: q,
+        sequence: letter.behind,
         next: to,
     }
 }
 
 // What ends a command, at the place behind its value.
-fn letter_at(s: &[u8], at: usize, first: u8, group: u8, v: Value) -> ReadItem
-    ensures { result ≡ up_to (length s.now) (letter first group v (drop at s.now)) }
+fn letter_at(s: &[u8], at: usize, opening: Opening, v: Value) -> ReadItem
+    ensures { result ≡ up_to (length s.now) (letter opening.first opening.group v (drop at s.now)) }
 {
-    if s.len() <= at {
+    let Some(&b) = s.get(at) else {
         return ends_inside(s);
-    }
-    let e = ending_of(first, group, s[at]);
-    let Ending::Letter { capital, behind } = e else {
+    };
+    let Some(letter) = ending_of(opening, b) else {
         return ReadItem {
             item: Item::Broken(Finding::CannotStand),
             sequence: Sequence::Closed,
             next: at,
         };
     };
-    payload_at(s, at + 1, first, group, capital, v, behind)
+    payload_at(s, at + 1, opening, letter, v)
 }
 
 // A value and what ends it.
-fn parameter_at(s: &[u8], at: usize, first: u8, group: u8) -> ReadItem
+fn parameter_at(s: &[u8], at: usize, opening: Opening) -> ReadItem
     requires { at ≤ length s.now }
-    ensures { result ≡ up_to (length s.now) (parameter first group (drop at s.now)) }
+    ensures { result ≡ up_to (length s.now) (parameter opening.first opening.group (drop at s.now)) }
 {
     let v = read_number::read_value(s, at);
-    let value = v.value;
-    let next = v.next;
-    letter_at(s, next, first, group, value)
+    letter_at(s, v.next, opening, v.value)
 }
 
 // Behind ESC and the first byte: a group or none, and then a value.
 fn group_at(s: &[u8], at: usize, first: u8) -> Begun
     ensures { Begins s.now (group first (drop at s.now)) result }
 {
-    if s.len() <= at {
+    let Some(&b) = s.get(at) else {
         return Begun::Read(ends_inside(s));
-    }
-    let b = s[at];
+    };
     match b {
         96..=126 => Begun::Sequence {
-            first,
-            group: b,
+            opening: Opening { first, group: b },
             from: at + 1,
         },
         _ => Begun::Sequence {
-            first,
-            group: 0,
+            opening: Opening { first, group: 0 },
             from: at,
         },
     }
@@ -135,18 +123,16 @@ fn group_at(s: &[u8], at: usize, first: u8) -> Begun
 fn escape_at(s: &[u8], at: usize) -> Begun
     ensures { Begins s.now (behind_escape (drop at s.now)) result }
 {
-    if s.len() <= at {
+    let Some(&b) = s.get(at) else {
         return Begun::Read(ends_inside(s));
-    }
-    let b = s[at];
-    let next = at + 1;
+    };
     match b {
         48..=126 => Begun::Read(ReadItem {
             item: Item::Two(b),
             sequence: Sequence::Closed,
-            next,
+            next: at + 1,
         }),
-        33..=47 => group_at(s, next, b),
+        33..=47 => group_at(s, at + 1, b),
         _ => Begun::Read(ReadItem {
             item: Item::Broken(Finding::CannotStand),
             sequence: Sequence::Closed,
@@ -159,10 +145,7 @@ fn escape_at(s: &[u8], at: usize) -> Begun
 pub fn is_text(b: u8) -> bool
     ensures { result ≡ is_text b }
 {
-    match b {
-        32..=126 | 128..=255 => true,
-        _ => false,
-    }
+    matches!(b, 32..=126 | 128..=255)
 }
 
 // Where no sequence is open: text, a code, or ESC and what is behind it.
@@ -171,22 +154,19 @@ fn afresh_at(s: &[u8], at: usize) -> Begun
     ensures { Begins s.now (read Sequence.Closed (drop at s.now)) result }
 {
     let b = s[at];
-    let next = at + 1;
-    match b {
-        27 => escape_at(s, next),
-        _ => {
-            let item = if is_text(b) {
-                Item::Text(b)
-            } else {
-                Item::Code(b)
-            };
-            Begun::Read(ReadItem {
-                item,
-                sequence: Sequence::Closed,
-                next,
-            })
-        }
+    if b == ESC {
+        return escape_at(s, at + 1);
     }
+    let item = if is_text(b) {
+        Item::Text(b)
+    } else {
+        Item::Code(b)
+    };
+    Begun::Read(ReadItem {
+        item,
+        sequence: Sequence::Closed,
+        next: at + 1,
+    })
 }
 
 // The beginning of the item at a place of the stream, which is not its end.
@@ -197,8 +177,7 @@ fn begun_at(s: &[u8], at: usize, q: Sequence) -> Begun
     match q {
         Sequence::Closed => afresh_at(s, at),
         Sequence::Open { first, group } => Begun::Sequence {
-            first,
-            group,
+            opening: Opening { first, group },
             from: at,
         },
     }
@@ -216,9 +195,8 @@ pub fn read_item(s: &[u8], at: usize, q: Sequence) -> ReadItem
             next: at,
         };
     }
-    let b = begun_at(s, at, q);
-    match b {
+    match begun_at(s, at, q) {
         Begun::Read(r) => r,
-        Begun::Sequence { first, group, from } => parameter_at(s, from, first, group),
+        Begun::Sequence { opening, from } => parameter_at(s, from, opening),
     }
 }

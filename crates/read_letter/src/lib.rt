@@ -8,11 +8,18 @@ ghost use Rattle.read_letter.specs.Letters.{asked, ending};
 
 use rules::{Sequence, Value};
 
-// What a byte behind a value is: a command's letter, as a capital, with the sequence that is open behind it; or none.
-#[derive(Drop)]
-pub enum Ending {
-    Letter { capital: u8, behind: Sequence },
-    NoLetter,
+// How a sequence begins: with its first byte and its group byte, which is 0 where it has no group.
+#[derive(Clone, Copy)]
+pub struct Opening {
+    pub first: u8,
+    pub group: u8,
+}
+
+// A command's letter, as a capital, and the sequence that is open behind it.
+#[derive(Clone, Copy)]
+pub struct Letter {
+    pub capital: u8,
+    pub behind: Sequence,
 }
 
 // The count of payload bytes that a value asks for: none if negative.
@@ -20,53 +27,47 @@ fn count_of(v: Value) -> usize
     ensures { result ≡ count v }
 {
     match v {
-        Value::Absolute(n) => (n / 10000) as usize,
-        Value::Relative { negative, size } => if negative { 0 } else { (size / 10000) as usize },
+        Value::Relative { negative: true, .. } => 0,
+        Value::Absolute(size) | Value::Relative { size, .. } => (size / 10000) as usize,
     }
 }
 
 // Payload follows every W, &p#X and *b#V.
-fn has_payload(first: u8, group: u8, letter: u8) -> bool
-    ensures { result ≡ has_payload first group letter }
+fn has_payload(opening: Opening, letter: u8) -> bool
+    ensures { result ≡ has_payload opening.first opening.group letter }
 {
-    match letter {
-        b'W' => true,
-        b'X' => first == b'&' && group == b'p',
-        b'V' => first == b'*' && group == b'b',
-        _ => false,
-    }
+    let Opening { first, group } = opening;
+    matches!(
+        (first, group, letter),
+        (_, _, b'W') | (b'&', b'p', b'X') | (b'*', b'b', b'V')
+    )
 }
 
 // The payload bytes that a command asks for.
-pub fn asked_by(first: u8, group: u8, letter: u8, v: Value) -> usize
-    ensures { result ≡ asked first group letter v }
+pub fn asked_by(opening: Opening, letter: u8, v: Value) -> usize
+    ensures { result ≡ asked opening.first opening.group letter v }
 {
-    if has_payload(first, group, letter) {
+    if has_payload(opening, letter) {
         count_of(v)
     } else {
         0
     }
 }
 
-// How a byte ends a command of this sequence.
-pub fn ending_of(first: u8, group: u8, b: u8) -> Ending
-    ensures { result ≡ ending first group b }
+// The letter that a byte is in a command of this sequence; none where the byte cannot end a command.
+pub fn ending_of(opening: Opening, b: u8) -> Option<Letter>
+    ensures { result ≡ ending opening.first opening.group b }
 {
+    let Opening { first, group } = opening;
     match b {
-        64..=94 => Ending::Letter {
+        64..=94 => Some(Letter {
             capital: b,
             behind: Sequence::Closed,
-        },
-        96..=126 => {
-            if 0 < group {
-                Ending::Letter {
-                    capital: b - 32,
-                    behind: Sequence::Open { first, group },
-                }
-            } else {
-                Ending::NoLetter
-            }
-        }
-        _ => Ending::NoLetter,
+        }),
+        96..=126 if group > 0 => Some(Letter {
+            capital: b - 32,
+            behind: Sequence::Open { first, group },
+        }),
+        _ => None,
     }
 }

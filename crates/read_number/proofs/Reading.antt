@@ -9,13 +9,31 @@ use native.Mathlib.Nat.{mul-le-mul_right}
 use lib.Dec.{eqb}
 use lib.ListN.{length, drop, get_or, length-drop, drop_of_length-le}
 use borrow.Author.Tests.{eq-eqb, ne_eqb}
-use Rattle.common.proofs.Choices.{choice, le_or_lt, within_in, within_under, within_over}
+use Rattle.std.specs.Prelude.{Some, None}
+use Rattle.std.specs.Slice.{IsItemAt}
+use Rattle.std.proofs.Common.{Bor}
+use Rattle.common.proofs.Choices.{choice, le_or_lt, within_in}
 use Rattle.common.proofs.Places.{cut}
 use Rattle.rules.specs.declared.Value.TheVariants.{Absolute, Relative}
 use Rattle.rules.specs.Number.{Figures, figures, is_digit, digits, places, fraction, size, ValueRead, absolute, relative, value, size_of}
 use Rattle.read_number.specs.declared.ValueAt.{ValueAt}
 use Rattle.read_number.specs.declared.NumberAt.{NumberAt}
 use Rattle.read_number.specs.Answers.{ReadAt, Took, relative_at, absolute_at}
+
+-- ---- the byte at a place
+
+module _ (s : List ℕ) (i : ℕ) where
+  -- a byte that was got stands there
+  pub got : (x : Bor ℕ) → IsItemAt s i (Some x) → (i < length s) × (x.now ≡ get_or s i 0)
+  got x h = (omega arith, h.4 (omega arith) 0)
+
+  -- none was got: it is the end of the list
+  pub got_none : IsItemAt s i None → length s ≤ i
+  got_none h = omega arith
+
+  -- the byte there, and what follows
+  pub cut_at : (b : ℕ) → i < length s → b ≡ get_or s i 0 → drop i s ≡ b ∷ drop (i + 1) s
+  cut_at b h e = cut s i h ∙ ap (λ (x : ℕ). x ∷ drop (i + 1) s) (sym e)
 
 -- ---- what is left does not hang on the number before
 
@@ -95,28 +113,20 @@ fraction_held n s =
 digit_in : (b : ℕ) → 48 ≤ b → b < 58 → is_digit b ≡ true
 digit_in b l h = within_in 48 57 b l (omega arith)
 
--- a lower one is not
-pub digit_under : (b : ℕ) → b < 48 → is_digit b ≡ false
-digit_under = within_under 48 57
-
--- nor a higher one
-pub digit_over : (b : ℕ) → 58 ≤ b → is_digit b ≡ false
-digit_over b h = within_over 48 57 b h
-
 -- a digit weighs at most nine times its weight
 pub digit_weight : (b weight : ℕ) → b < 58 → (b - 48) * weight ≤ 9 * weight
 digit_weight b weight h = mul-le-mul_right weight (omega arith)
 
 -- a digit at a place goes behind the number
-digits_on : (n : ℕ) (s : List ℕ) (i : ℕ) → i < length s → is_digit (get_or s i 0) ≡ true → digits n (drop i s) ≡ digits (n * 10 + (get_or s i 0 - 48)) (drop (i + 1) s)
+digits_on : (n : ℕ) (s : List ℕ) (i b : ℕ) → i < length s → b ≡ get_or s i 0 → is_digit b ≡ true → digits n (drop i s) ≡ digits (n * 10 + (b - 48)) (drop (i + 1) s)
 unfolding digits
-digits_on n s i h t = rw (cut s i h, t)
+digits_on n s i b h e t = rw (cut_at s i b h e, t)
 
 -- a place behind the point is added by its weight
-places_on : (weight n : ℕ) (s : List ℕ) (i : ℕ) → i < length s → is_digit (get_or s i 0) ≡ true
-    → places weight n (drop i s) ≡ places (weight / 10) (n + (get_or s i 0 - 48) * weight) (drop (i + 1) s)
+places_on : (weight n : ℕ) (s : List ℕ) (i b : ℕ) → i < length s → b ≡ get_or s i 0 → is_digit b ≡ true
+    → places weight n (drop i s) ≡ places (weight / 10) (n + (b - 48) * weight) (drop (i + 1) s)
 unfolding places
-places_on weight n s i h t = rw (cut s i h, t)
+places_on weight n s i b h e t = rw (cut_at s i b h e, t)
 
 -- the loop over digits: what is left, behind the number so far, makes the whole number
 pub record Counting (s : List ℕ) (at n i : ℕ) : Type 0 where
@@ -128,11 +138,11 @@ pub record Counting (s : List ℕ) (at n i : ℕ) : Type 0 where
 
 module _ (s : List ℕ) (at n i : ℕ) (inv : Counting s at n i) where
   -- one more digit
-  pub counting_again : (r : ℕ) → i < length s → 48 ≤ get_or s i 0 → get_or s i 0 < 58 → r ≡ min (n * 10 + (get_or s i 0 - 48)) 32768 → Counting s at r (i + 1)
-  counting_again r h lo hi e =
-      let t : is_digit (get_or s i 0) ≡ true = digit_in (get_or s i 0) lo hi in
-      let m : ℕ = n * 10 + (get_or s i 0 - 48) in
-      let q : digits n (drop i s) ≡ digits m (drop (i + 1) s) = digits_on n s i h t in
+  pub counting_again : (r b : ℕ) → i < length s → b ≡ get_or s i 0 → 48 ≤ b → b < 58 → r ≡ min (n * 10 + (b - 48)) 32768 → Counting s at r (i + 1)
+  counting_again r b h g lo hi e =
+      let t : is_digit b ≡ true = digit_in b lo hi in
+      let m : ℕ = n * 10 + (b - 48) in
+      let q : digits n (drop i s) ≡ digits m (drop (i + 1) s) = digits_on n s i b h g t in
       record {
         on = let o = inv.on in omega arith;
         inside = let o = inv.inside in omega arith;
@@ -150,8 +160,8 @@ module _ (s : List ℕ) (at n i : ℕ) (inv : Counting s at n i) where
       record { is = omega arith; left = sym (inv.rest ∙ ap (λ (f : Figures). f.rest) q); on = inv.on; inside = inv.inside }
 
   -- no digit follows
-  pub counting_stop : i < length s → is_digit (get_or s i 0) ≡ false → Took s at (digits 0 (drop at s)) 32768 (record { number = n; next = i })
-  counting_stop h t = counting_done (unfold digits in rw (cut s i h, t))
+  pub counting_stop : (b : ℕ) → i < length s → b ≡ get_or s i 0 → is_digit b ≡ false → Took s at (digits 0 (drop at s)) 32768 (record { number = n; next = i })
+  counting_stop b h g t = counting_done (unfold digits in rw (cut_at s i b h g, t))
 
   -- the end of the list
   pub counting_end : length s ≤ i → Took s at (digits 0 (drop at s)) 32768 (record { number = n; next = i })
@@ -168,11 +178,11 @@ pub record Placing (s : List ℕ) (at n sum weight i : ℕ) : Type 0 where
 
 module _ (s : List ℕ) (at n sum weight i : ℕ) (inv : Placing s at n sum weight i) where
   -- one more place
-  pub placing_again : (r : ℕ) → i < length s → 48 ≤ get_or s i 0 → get_or s i 0 < 58 → r ≡ sum + (get_or s i 0 - 48) * weight → Placing s at n r (weight / 10) (i + 1)
-  placing_again r h lo hi e =
-      let t : is_digit (get_or s i 0) ≡ true = digit_in (get_or s i 0) lo hi in
-      let w = digit_weight (get_or s i 0) weight hi in
-      let q : places weight sum (drop i s) ≡ places (weight / 10) (sum + (get_or s i 0 - 48) * weight) (drop (i + 1) s) = places_on weight sum s i h t in
+  pub placing_again : (r b : ℕ) → i < length s → b ≡ get_or s i 0 → 48 ≤ b → b < 58 → r ≡ sum + (b - 48) * weight → Placing s at n r (weight / 10) (i + 1)
+  placing_again r b h g lo hi e =
+      let t : is_digit b ≡ true = digit_in b lo hi in
+      let w = digit_weight b weight hi in
+      let q : places weight sum (drop i s) ≡ places (weight / 10) (sum + (b - 48) * weight) (drop (i + 1) s) = places_on weight sum s i b h g t in
       record {
         on = let o = inv.on in omega arith;
         inside = let o = inv.inside in omega arith;
@@ -187,9 +197,9 @@ module _ (s : List ℕ) (at n sum weight i : ℕ) (inv : Placing s at n sum weig
       rw (inv.same, q) (record { is = e; left = refl; on = inv.on; inside = inv.inside })
 
   -- no digit follows
-  pub placing_stop : (r : ℕ) → r ≡ min sum 327670000 → i < length s → is_digit (get_or s i 0) ≡ false
+  pub placing_stop : (r b : ℕ) → r ≡ min sum 327670000 → i < length s → b ≡ get_or s i 0 → is_digit b ≡ false
       → Took s at (places 1000 n (drop at s)) 327670000 (record { number = r; next = i })
-  placing_stop r e h t = placing_done r e (unfold places in rw (cut s i h, t))
+  placing_stop r b e h g t = placing_done r e (unfold places in rw (cut_at s i b h g, t))
 
   -- the end of the list
   pub placing_end : (r : ℕ) → r ≡ min sum 327670000 → length s ≤ i
@@ -199,10 +209,10 @@ module _ (s : List ℕ) (at n sum weight i : ℕ) (inv : Placing s at n sum weig
 module _ (s : List ℕ) (at : ℕ) where
   -- ---- the point
   -- a point, and digits behind it
-  pub fraction_point : (n : ℕ) {r : NumberAt} → at < length s → get_or s at 0 ≡ 46 → Took s (at + 1) (places 1000 (n * 10000) (drop (at + 1) s)) 327670000 r
+  pub fraction_point : (n b : ℕ) {r : NumberAt} → at < length s → b ≡ get_or s at 0 → b ≡ 46 → Took s (at + 1) (places 1000 (n * 10000) (drop (at + 1) s)) 327670000 r
       → Took s at (fraction n (drop at s)) 327670000 r
-  fraction_point n h b t =
-      let q : fraction n (drop at s) ≡ places 1000 (n * 10000) (drop (at + 1) s) = unfold fraction in rw (cut s at h, eq-eqb _ 46 b) in
+  fraction_point n b h g k t =
+      let q : fraction n (drop at s) ≡ places 1000 (n * 10000) (drop (at + 1) s) = unfold fraction in rw (cut_at s at b h g, eq-eqb b 46 k) in
       rw q (record { is = t.is; left = t.left; on = let o = t.on in omega arith; inside = let o = t.inside in omega arith })
 
   -- no point
@@ -211,9 +221,9 @@ module _ (s : List ℕ) (at : ℕ) where
   fraction_none n r e q = rw q (record { is = e; left = refl; on = omega arith; inside = omega arith })
 
   -- another byte
-  pub fraction_other : (n r : ℕ) → at < length s → (get_or s at 0 ≡ 46 → ⊥) → r ≡ min (n * 10000) 327670000
+  pub fraction_other : (n r b : ℕ) → at < length s → b ≡ get_or s at 0 → (b ≡ 46 → ⊥) → r ≡ min (n * 10000) 327670000
       → Took s at (fraction n (drop at s)) 327670000 (record { number = r; next = at })
-  fraction_other n r h b e = fraction_none n r e (unfold fraction in rw (cut s at h, ne_eqb _ 46 b))
+  fraction_other n r b h g k e = fraction_none n r e (unfold fraction in rw (cut_at s at b h g, ne_eqb b 46 k))
 
   -- the end of the list
   pub fraction_end : (n r : ℕ) → length s ≤ at → r ≡ min (n * 10000) 327670000
@@ -258,12 +268,12 @@ module _ (s : List ℕ) (at : ℕ) where
         (let o = t.on in omega arith) (let o = t.inside in omega arith) (let o = t.is in omega arith))
 
     -- a plus
-    pub value_plus : get_or s at 0 ≡ 43 → r ≡ relative_at false n → ReadAt s at r
-    value_plus b f = signed false f (unfold value in rw (cut s at h, eq-eqb _ 43 b))
+    pub value_plus : (b : ℕ) → b ≡ get_or s at 0 → b ≡ 43 → r ≡ relative_at false n → ReadAt s at r
+    value_plus b g k f = signed false f (unfold value in rw (cut_at s at b h g, eq-eqb b 43 k))
 
     -- a minus
-    pub value_minus : (get_or s at 0 ≡ 43 → ⊥) → get_or s at 0 ≡ 45 → r ≡ relative_at true n → ReadAt s at r
-    value_minus a b f = signed true f (unfold value in rw (cut s at h, ne_eqb _ 43 a, eq-eqb _ 45 b))
+    pub value_minus : (b : ℕ) → b ≡ get_or s at 0 → b ≡ 45 → r ≡ relative_at true n → ReadAt s at r
+    value_minus b g k f = signed true f (unfold value in rw (cut_at s at b h g, ne_eqb b 43 (λ (e : b ≡ 43). omega arith), eq-eqb b 45 k))
 
   module _ {n : NumberAt} {r : ValueAt} (t : Took s at (size (drop at s)) 327670000 n) (f : r ≡ absolute_at n) where
     -- a size alone
@@ -273,8 +283,8 @@ module _ (s : List ℕ) (at : ℕ) where
         rw f (read_as (absolute (size (drop at s))) e (ap Absolute t.is) t.left t.on t.inside (let o = t.is in omega arith))
 
     -- no sign
-    pub value_none : at < length s → (get_or s at 0 ≡ 43 → ⊥) → (get_or s at 0 ≡ 45 → ⊥) → ReadAt s at r
-    value_none h a b = unsigned (unfold value in rw (cut s at h, ne_eqb _ 43 a, ne_eqb _ 45 b))
+    pub value_none : (b : ℕ) → at < length s → b ≡ get_or s at 0 → (b ≡ 43 → ⊥) → (b ≡ 45 → ⊥) → ReadAt s at r
+    value_none b h g j k = unsigned (unfold value in rw (cut_at s at b h g, ne_eqb b 43 j, ne_eqb b 45 k))
 
     -- the end of the list
     pub value_end : length s ≤ at → ReadAt s at r

@@ -4,22 +4,53 @@
 
 ghost use Rattle.std.specs.Prelude.{◌≡◌, ◌+◌, ◌*◌, ◌-◌, ◌≤◌, ◌<◌, min, drop};
 ghost use Rattle.rules.specs.Number.{digits, places, fraction, size};
-ghost use Rattle.read_number.specs.Answers.{Took, relative_at, absolute_at, ReadAt};
+ghost use Rattle.read_number.specs.Answers.{Took, ReadAt};
 
 use rules::Value;
 
+// The largest size, 32,767, in ten-thousandths.
+const LARGEST: u32 = 327670000;
+
 // A value, and the place behind it.
-#[derive(Drop)]
+#[derive(Clone, Copy)]
 pub struct ValueAt {
     pub value: Value,
     pub next: usize,
 }
 
 // A number, and the place behind it.
-#[derive(Drop)]
+#[derive(Clone, Copy)]
 struct NumberAt {
     number: u32,
     next: usize,
+}
+
+impl NumberAt {
+    ghost use Rattle.std.specs.Prelude.{◌≡◌};
+    ghost use Rattle.read_number.specs.Answers.{relative_at, absolute_at};
+
+    // A size with a sign before it.
+    fn relative(self, negative: bool) -> ValueAt
+        ensures { result ≡ relative_at negative self }
+    {
+        ValueAt {
+            value: Value::Relative {
+                negative,
+                size: self.number,
+            },
+            next: self.next,
+        }
+    }
+
+    // A size with no sign.
+    fn absolute(self) -> ValueAt
+        ensures { result ≡ absolute_at self }
+    {
+        ValueAt {
+            value: Value::Absolute(self.number),
+            next: self.next,
+        }
+    }
 }
 
 // The number n with one more digit; from 32,768 on it does not matter how far.
@@ -27,25 +58,18 @@ fn one_more(n: u32, b: u8) -> u32
     requires { (48 ≤ b) × (b < 58) × (n ≤ 32768) }
     ensures { result ≡ min (n * 10 + (b - 48)) 32768 }
 {
-    let m = n * 10 + (b - 48) as u32;
-    if m < 32768 { m } else { 32768 }
+    (n * 10 + u32::from(b - b'0')).min(32768)
 }
 
-// The whole number at a place, or 32,768 where it is more.
+// The whole number at a place, or 32,768 where it is more. No `for`: the place where the digits end is a part of the answer.
 fn read_digits(s: &[u8], at: usize) -> NumberAt
     ensures { Took s.now at (digits 0 (drop at s.now)) 32768 result }
 {
-    let mut n: u32 = 0;
+    let mut n = 0;
     let mut i = at;
-    while i < s.len() {
-        let b = s[i];
-        match b {
-            b'0'..=b'9' => {
-                n = one_more(n, b);
-                i += 1;
-            }
-            _ => break,
-        }
+    while i < s.len() && s[i].is_ascii_digit() {
+        n = one_more(n, s[i]);
+        i += 1;
     }
     NumberAt { number: n, next: i }
 }
@@ -55,37 +79,24 @@ fn one_place(n: u32, weight: u32, b: u8) -> u32
     requires { (48 ≤ b) × (b < 58) × (n + 10 * weight ≤ 327690000) }
     ensures { result ≡ n + (b - 48) * weight }
 {
-    n + (b - 48) as u32 * weight
+    n + u32::from(b - b'0') * weight
 }
 
-// A size over 32,767 becomes 32,767.
-fn lower(n: u32) -> u32
-    ensures { result ≡ min n 327670000 }
-{
-    if n < 327670000 { n } else { 327670000 }
-}
-
-// The size n with the digits at a place behind its point; from the fifth on they weigh nothing.
+// The size n with the digits at a place behind its point; from the fifth on they weigh nothing. The place is counted as above.
 fn read_places(s: &[u8], at: usize, n: u32) -> NumberAt
     requires { n ≤ 327680000 }
     ensures { Took s.now at (places 1000 n (drop at s.now)) 327670000 result }
 {
     let mut sum = n;
-    let mut weight: u32 = 1000;
+    let mut weight = 1000;
     let mut i = at;
-    while i < s.len() {
-        let b = s[i];
-        match b {
-            b'0'..=b'9' => {
-                sum = one_place(sum, weight, b);
-                weight = weight / 10;
-                i += 1;
-            }
-            _ => break,
-        }
+    while i < s.len() && s[i].is_ascii_digit() {
+        sum = one_place(sum, weight, s[i]);
+        weight /= 10;
+        i += 1;
     }
     NumberAt {
-        number: lower(sum),
+        number: sum.min(LARGEST),
         next: i,
     }
 }
@@ -95,19 +106,16 @@ fn read_fraction(s: &[u8], at: usize, n: u32) -> NumberAt
     requires { n ≤ 32768 }
     ensures { Took s.now at (fraction n (drop at s.now)) 327670000 result }
 {
-    if at < s.len() {
-        let b = s[at];
-        if b == b'.' {
-            return read_places(s, at + 1, n * 10000);
-        }
-    }
-    NumberAt {
-        number: lower(n * 10000),
-        next: at,
+    match s.get(at) {
+        Some(b'.') => read_places(s, at + 1, n * 10000),
+        _ => NumberAt {
+            number: (n * 10000).min(LARGEST),
+            next: at,
+        },
     }
 }
 
-// The size at a place: digits, an optional point and digits.
+// The size at a place: digits, an optional point and digits. A size over 32,767 becomes 32,767.
 fn read_size(s: &[u8], at: usize) -> NumberAt
     ensures { Took s.now at (size (drop at s.now)) 327670000 result }
 {
@@ -115,39 +123,13 @@ fn read_size(s: &[u8], at: usize) -> NumberAt
     read_fraction(s, whole.next, whole.number)
 }
 
-// A size with a sign before it.
-fn relative(negative: bool, n: NumberAt) -> ValueAt
-    ensures { result ≡ relative_at negative n }
-{
-    let size = n.number;
-    ValueAt {
-        value: Value::Relative { negative, size },
-        next: n.next,
-    }
-}
-
-// A size with no sign.
-fn absolute(n: NumberAt) -> ValueAt
-    ensures { result ≡ absolute_at n }
-{
-    ValueAt {
-        value: Value::Absolute(n.number),
-        next: n.next,
-    }
-}
-
 // The value at a place: a sign makes it relative, also before 0.
 pub fn read_value(s: &[u8], at: usize) -> ValueAt
     ensures { ReadAt s.now at result }
 {
-    if at < s.len() {
-        let b = s[at];
-        if b == b'+' {
-            return relative(false, read_size(s, at + 1));
-        }
-        if b == b'-' {
-            return relative(true, read_size(s, at + 1));
-        }
+    match s.get(at) {
+        Some(b'+') => read_size(s, at + 1).relative(false),
+        Some(b'-') => read_size(s, at + 1).relative(true),
+        _ => read_size(s, at).absolute(),
     }
-    absolute(read_size(s, at))
 }

@@ -6,8 +6,6 @@
 ghost use Rattle.std.specs.Prelude.{◌≡◌, length};
 ghost use Rattle.report_laws.specs.Bound.{longest_report};
 
-use given::Given;
-
 // A room for the longest report, in zeros. A function of its own hides the zeros, of which no proof can count so many.
 fn longest_room() -> [u8; 2228358]
     ensures { longest_report ≡ length result }
@@ -16,15 +14,10 @@ fn longest_room() -> [u8; 2228358]
 }
 
 fn main(rt: HostRuntime) {
-    let err = rt.stderr();
     let mut input = [0u8; 65537];
-    let Given::Job(n) = given::read_job(&mut rt.stdin(), &mut input) else {
-        let _ = err.write_all(b"UNREAD\n");
-        return;
-    };
-    let mut room = longest_room();
-    let end = report_write::write_report(&input[..n], &mut room);
-    if rt.stdout().write_all(&room[..end]).is_err() {
-        let _ = err.write_all(b"UNWRITTEN\n");
-    }
+    given::answer(&mut rt.stdin(), &rt.stderr(), &mut input, |job| {
+        let mut room = longest_room();
+        let end = report_write::write_report(job, &mut room);
+        rt.stdout().write_all(&room[..end])
+    });
 }

@@ -1,38 +1,37 @@
-// The lines SIZE, REFUSED and FAULT of the report, each written into a room that is lent.
+// The lines SIZE, REFUSED and FAULT of the report.
 // Nothing is refused: what has no room is not written.
 #![tactic(auto)]
 
 ghost use Rattle.std.specs.Prelude.{[], ◌∷◌};
-ghost use Rattle.common.specs.Stores.{Wrote};
+ghost use Rattle.common.specs.Writing.{Written};
 ghost use Rattle.rules.specs.Report.{line, SIZE, refused_line, fault};
 
-use number_finding::{finding_number, refusal_number};
-use report_line::{write_last_field, write_line, write_word};
+use common::Writer;
+use number_finding::{finding_number, is_clean, refusal_number};
+use report_line::write_line;
 use rules::{Finding, Refusal};
 
 // SIZE, W, H.
-pub fn write_size(w: usize, h: usize, room: &mut [u8], at: usize) -> usize
-    ensures { Wrote room.old at (line SIZE (w ∷ h ∷ []) []) room.new result }
+pub fn write_size(w: usize, h: usize, out: &mut Writer)
+    ensures { Written out.old (line SIZE (w ∷ h ∷ []) []) out.new }
 {
-    write_line(b"SIZE", w, h, room, at)
+    write_line(b"SIZE", &[w, h], out);
 }
 
 // REFUSED, and the refusal's number.
-pub fn write_refused(why: Refusal, room: &mut [u8], at: usize) -> usize
-    ensures { Wrote room.old at (refused_line why) room.new result }
+pub fn write_refused(why: Refusal, out: &mut Writer)
+    ensures { Written out.old (refused_line why) out.new }
 {
     let n = refusal_number(why) as usize;
-    let behind = write_word(b"REFUSED", room, at);
-    write_last_field(n, room, behind)
+    write_line(b"REFUSED", &[n], out);
 }
 
 // FAULT, place, number; nothing where all is well.
-pub fn write_fault(place: usize, f: Finding, room: &mut [u8], at: usize) -> usize
-    ensures { Wrote room.old at (fault place f []) room.new result }
+pub fn write_fault(place: usize, f: Finding, out: &mut Writer)
+    ensures { Written out.old (fault place f []) out.new }
 {
-    let n = finding_number(f) as usize;
-    if n == 0 {
-        return common::least(at, room.len());
+    if !is_clean(f) {
+        let n = finding_number(f) as usize;
+        write_line(b"FAULT", &[place, n], out);
     }
-    write_line(b"FAULT", place, n, room, at)
 }

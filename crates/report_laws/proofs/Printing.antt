@@ -13,7 +13,7 @@ use Rattle.common.specs.Bits.{ones_all}
 use Rattle.common.proofs.Choices.{choice_by}
 use Rattle.rules.specs.declared.Measure.{Measure}
 use Rattle.rules.specs.declared.Finding.{Finding}
-use Rattle.rules.specs.declared.Verdict.TheVariants.{Carried}
+use Rattle.rules.specs.Given.{Carried}
 use Rattle.rules.specs.declared.Spot.{Spot}
 use Rattle.rules.specs.declared.State.{State}
 use Rattle.rules.specs.Measure.{blank, origin}

@@ -1,19 +1,14 @@
 -- Successive runs print a stream's lines in order. Assumes nothing.
-use mathlib.Core.Path.{◌≡◌, refl, ap, sym, ◌∙◌, subst}
-use Prim.Native.Nat.{ℕ, suc, ◌+◌, ◌*◌, ◌/◌, ◌≤◌, ◌<◌}
-use native.Mathlib.Omega.{arith}
-use mathlib.Core.List.{List, [], ◌∷◌, ◌++◌}
-use mathlib.Core.Bool.{Bool, true, false, cond}
-use lib.ListN.{length, drop}
-use lib.Seq.{length-sets}
+use Rattle.std.proofs.Common.{◌≡◌, refl, ap, sym, ◌∙◌, subst, ℕ, suc, ◌+◌, ◌*◌, ◌/◌, ◌≤◌, ◌<◌, arith, List, [], ◌∷◌, ◌++◌, Bool, true, false, cond, length, drop}
 use Rattle.common.specs.Bits.{ones_all}
-use Rattle.common.specs.Stores.{Wrote}
-use Rattle.common.proofs.Stores.{wrote_both}
+use Rattle.common.specs.declared.writer.Writer.{Writer}
+use Rattle.common.specs.Writing.{Written}
+use Rattle.common.proofs.Writing.{written_both}
 use Rattle.rules.specs.declared.Measure.{Measure}
 use Rattle.rules.specs.declared.Finding.{Finding}
 use Rattle.rules.specs.declared.Spot.{Spot}
 use Rattle.rules.specs.declared.State.{State}
-use Rattle.rules.specs.declared.Ran.{Ran}
+use Rattle.rules.specs.Given.{Ran}
 use Rattle.rules.specs.Measure.{Bounded, allowed, measure_of, blank, longest_stream}
 use Rattle.rules.specs.States.{fresh_core, afresh}
 use Rattle.rules.specs.Sound.{sound}
@@ -60,14 +55,14 @@ module _ (say : Saying) (ahead : Ahead say) where
       ∙ told_append o.began o.found o.finding (cond o.ended page []) s
 
   -- they are written one behind the other
-  pub wrote_told : {l l1 l2 : List ℕ} {at a r : ℕ} (number : ℕ) (o : Ran) (p : List ℕ) → Wrote l at (told say o.began o.found o.finding []) l1 a
-      → Wrote l1 a (cond o.ended (line PAGE (number ∷ ones_all p ∷ []) []) []) l2 r → Wrote l at (printed say number o p []) l2 r
-  wrote_told number o p v w = rw (told_append o.began o.found o.finding [] (cond o.ended (line PAGE (number ∷ ones_all p ∷ []) []) [])) (wrote_both v w)
+  pub wrote_told : {a b c : Writer} (number : ℕ) (o : Ran) (p : List ℕ) → Written a (told say o.began o.found o.finding []) b
+      → Written b (cond o.ended (line PAGE (number ∷ ones_all p ∷ []) []) []) c → Written a (printed say number o p []) c
+  wrote_told number o p v w = rw (told_append o.began o.found o.finding [] (cond o.ended (line PAGE (number ∷ ones_all p ∷ []) []) [])) (written_both v w)
 
 -- those of the report
-pub wrote_ran : {l l1 l2 : List ℕ} {at a r : ℕ} (number : ℕ) (o : Ran) (p : List ℕ) (f : Finding) → f ≡ o.finding → Wrote l at (fault o.found f []) l1 a
-    → Wrote l1 a (cond o.ended (line PAGE (number ∷ ones_all p ∷ []) []) []) l2 r → Wrote l at (printed fault_alone number o p []) l2 r
-wrote_ran number o p f e v w = wrote_told fault_alone alone_ahead number o p (rw e at v) w
+pub wrote_ran : {a b c : Writer} (number : ℕ) (o : Ran) (p : List ℕ) → Written a (fault o.found o.finding []) b
+    → Written b (cond o.ended (line PAGE (number ∷ ones_all p ∷ []) []) []) c → Written a (printed fault_alone number o p []) c
+wrote_ran number o p v w = wrote_told fault_alone alone_ahead number o p v w
 
 -- the report's page is allowed
 pub page_allowed : allowed report_width report_height ≡ true
@@ -92,11 +87,10 @@ pub record Going (W H : ℕ) (s page : List ℕ) (t : State) (place number findi
   pub found : findings + left t.sequence (drop place s) ≤ 2 * length s
 
 -- the loop that writes the lines of a stream: with the lines that are left all are written
-pub record Reporting (W H : ℕ) (s before : List ℕ) (at : ℕ) (page room : List ℕ) (t : State) (place number findings next : ℕ) : Type 0 where
+pub record Reporting (W H : ℕ) (s : List ℕ) (before : Writer) (page : List ℕ) (now : Writer) (t : State) (place number findings : ℕ) : Type 0 where
   pub going : Going W H s page t place number findings
-  pub kept : length room ≡ length before
-  pub ends : (after : List ℕ) (r : ℕ) → Wrote room next (lines_left fault_alone (measure_of W H) t (drop place s) place number (page_now (measure_of W H) t page) findings) after r
-      → Wrote before at (stream_lines fault_alone (measure_of W H) s) after r
+  pub ends : (after : Writer) → Written now (lines_left fault_alone (measure_of W H) t (drop place s) place number (page_now (measure_of W H) t page) findings) after
+      → Written before (stream_lines fault_alone (measure_of W H) s) after
 
 module _ (W H : ℕ) (allow : allowed W H ≡ true) where
   -- nothing is done yet
@@ -115,17 +109,13 @@ module _ (W H : ℕ) (allow : allowed W H ≡ true) where
   going_start s page t e h = rw h (going_fresh s page e)
 
   -- nothing is written yet
-  fresh : (s room : List ℕ) (at : ℕ) (page : List ℕ) → length page ≡ H * (W / 8) → Reporting W H s room at page room (afresh (measure_of W H)) 0 1 0 at
+  fresh : (s : List ℕ) (before : Writer) (page : List ℕ) → length page ≡ H * (W / 8) → Reporting W H s before page before (afresh (measure_of W H)) 0 1 0
   unfolding afresh fresh_core
-  fresh s room at page e = record {
-    going = going_fresh s page e;
-    kept = refl;
-    ends = λ after r w. subst (λ l. Wrote room at l after r) (left_whole fault_alone (measure_of W H) s) w;
-  }
+  fresh s before page e = record { going = going_fresh s page e; ends = λ after w. subst (λ l. Written before l after) (left_whole fault_alone (measure_of W H) s) w }
 
-  pub reporting_start : (s room : List ℕ) (at : ℕ) (page : List ℕ) (t : State) → length page ≡ H * (W / 8) → t ≡ afresh (measure_of W H)
-      → Reporting W H s room at page room t 0 1 0 at
-  reporting_start s room at page t e h = rw h (fresh s room at page e)
+  pub reporting_start : (s : List ℕ) (before : Writer) (page : List ℕ) (t : State) → length page ≡ H * (W / 8) → t ≡ afresh (measure_of W H)
+      → Reporting W H s before page before t 0 1 0
+  reporting_start s before page t e h = rw h (fresh s before page e)
 
   module _ {s page : List ℕ} {t : State} {place number findings : ℕ} (inv : Going W H s page t place number findings) (long : length s ≤ longest_stream) (k : ℕ) {o : Ran}
       {page' : List ℕ} (promise : RunPromise W H page s t place (suc k) o page') where
@@ -201,7 +191,7 @@ module _ (W H : ℕ) (allow : allowed W H ≡ true) where
         seen true a b = refl
         seen false a b = refl
 
-  module _ {s before : List ℕ} {at : ℕ} {page room : List ℕ} {t : State} {place number findings next : ℕ} (inv : Reporting W H s before at page room t place number findings next)
+  module _ {s page : List ℕ} {before now : Writer} {t : State} {place number findings : ℕ} (inv : Reporting W H s before page now t place number findings)
       (long : length s ≤ 65536) (k : ℕ) {o : Ran} {page' : List ℕ} (promise : RunPromise W H page s t place (suc k) o page') where
     within : length s ≤ longest_stream
     within = omega arith
@@ -211,14 +201,13 @@ module _ (W H : ℕ) (allow : allowed W H ≡ true) where
     reporting_less z = going_less inv.going within k promise z
 
     -- the lines of a run are written
-    pub reporting_again : {room' : List ℕ} {r i j : ℕ} → (o.done ≡ 0 → ⊥) → length page' ≡ length page → i ≡ cond o.ended 1 0 → j ≡ counted o.finding → Wrote room next (printed fault_alone number o page' []) room' r
-        → Reporting W H s before at page' room' o.state o.place (number + i) (findings + j) r
+    pub reporting_again : {next : Writer} {i j : ℕ} → (o.done ≡ 0 → ⊥) → length page' ≡ length page → i ≡ cond o.ended 1 0 → j ≡ counted o.finding
+        → Written now (printed fault_alone number o page' []) next → Reporting W H s before page' next o.state o.place (number + i) (findings + j)
     reporting_again z e x y v = record {
       going = going_again inv.going within k promise z e x y;
-      kept = ap length v.held ∙ length-sets room next (printed fault_alone number o page' []) ∙ inv.kept;
-      ends = λ after q u. inv.ends after q (rw (lines_again inv.going within k promise fault_alone alone_ahead z, ← x, ← y) (wrote_both v u));
+      ends = λ after u. inv.ends after (rw (lines_again inv.going within k promise fault_alone alone_ahead z, ← x, ← y) (written_both v u));
     }
 
     -- the last lines are written
-    pub reporting_end : {after : List ℕ} {r : ℕ} → o.done ≡ 0 → Wrote room next (last_lines number (world o.state.core page' []) findings) after r → Wrote before at (stream_lines fault_alone (measure_of W H) s) after r
-    reporting_end {after} {r} z w = inv.ends after r (subst (λ l. Wrote room next l after r) (lines_end inv.going within k promise fault_alone z) w)
+    pub reporting_end : {after : Writer} → o.done ≡ 0 → Written now (last_lines number (world o.state.core page' []) findings) after → Written before (stream_lines fault_alone (measure_of W H) s) after
+    reporting_end {after} z w = inv.ends after (subst (λ l. Written now l after) (lines_end inv.going within k promise fault_alone z) w)

@@ -1,13 +1,10 @@
 -- A text that fits its room is there whole; the whole report, written. Assumes nothing.
-use mathlib.Core.Path.{◌≡◌, refl, sym, ◌∙◌}
-use Prim.Native.Nat.{ℕ, ◌≤◌, ◌<◌}
-use native.Mathlib.Omega.{arith}
-use mathlib.Core.List.{List, [], ◌∷◌}
-use lib.ListN.{length, take}
-use lib.Seq.{sets-eq, take_at}
-use borrow.Author.Tests.{lt-ltb, le-ltb}
+use Rattle.std.proofs.Common.{◌≡◌, refl, sym, ◌∙◌, ℕ, ◌≤◌, ◌<◌, arith, List, [], ◌∷◌, length, take, take_at, lt-ltb, le-ltb}
+use Rattle.std.proofs.lemmas.List.Edits.{sets-eq}
 use Rattle.common.specs.Stores.{Wrote, Holds}
-use Rattle.common.proofs.Stores.{wrote_both}
+use Rattle.common.specs.declared.writer.Writer.{Writer}
+use Rattle.common.specs.Writing.{Written}
+use Rattle.common.proofs.Writing.{written_both}
 use Rattle.rules.specs.declared.Refusal.TheVariants.{StreamLength}
 use Rattle.rules.specs.Report.{line, SIZE, report_limit, report_width, report_height, report_page, report, fault_alone, refused_line, stream_lines}
 use Rattle.report_line.proofs.Texts.{line_append}
@@ -33,15 +30,19 @@ held_once p q = (p.wrote.next ∙ sym q.wrote.next, p.wrote.held ∙ sym q.wrote
 pub one_report : OneReport
 one_report s before after after' r r' p q = held_once p q
 
-module _ {room room1 room2 : List ℕ} {a r : ℕ} (s : List ℕ) (size : Wrote room 0 (line SIZE (report_width ∷ report_height ∷ []) []) room1 a) where
+module _ {a b c : Writer} (s : List ℕ) (front : a.at ≡ 0) (size : Written a (line SIZE (report_width ∷ report_height ∷ []) []) b) where
+  -- a report that was written from the front of the room on
+  reported : Written a (report s) c → Reported s a.room.now c.room.now c.at
+  reported w = held (reports_fit s) (rw front at w.wrote)
+
   -- of a stream within the limit: SIZE, and its lines
-  pub reported_lines : length s ≤ report_limit → Wrote room1 a (stream_lines fault_alone report_page s) room2 r → Reported s room room2 r
+  pub reported_lines : length s ≤ report_limit → Written b (stream_lines fault_alone report_page s) c → Reported s a.room.now c.room.now c.at
   unfolding report
   reported_lines h w =
-      held (reports_fit s) (rw (le-ltb report_limit (length s) h, line_append SIZE (report_width ∷ report_height ∷ []) [] (stream_lines fault_alone report_page s)) (wrote_both size w))
+      reported (rw (le-ltb report_limit (length s) h, line_append SIZE (report_width ∷ report_height ∷ []) [] (stream_lines fault_alone report_page s)) (written_both size w))
 
   -- of a longer one: SIZE and REFUSED
-  pub reported_refusal : report_limit < length s → Wrote room1 a (refused_line StreamLength) room2 r → Reported s room room2 r
+  pub reported_refusal : report_limit < length s → Written b (refused_line StreamLength) c → Reported s a.room.now c.room.now c.at
   unfolding report
   reported_refusal h w =
-      held (reports_fit s) (rw (lt-ltb report_limit (length s) h, line_append SIZE (report_width ∷ report_height ∷ []) [] (refused_line StreamLength)) (wrote_both size w))
+      reported (rw (lt-ltb report_limit (length s) h, line_append SIZE (report_width ∷ report_height ∷ []) [] (refused_line StreamLength)) (written_both size w))

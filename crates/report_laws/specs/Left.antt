@@ -3,7 +3,7 @@ use Rattle.std.specs.Prelude.{ℕ, ◌+◌, cond, List, [], ◌∷◌}
 use Rattle.common.specs.Bits.{ones_all}
 use Rattle.rules.specs.declared.Measure.{Measure}
 use Rattle.rules.specs.declared.State.{State}
-use Rattle.rules.specs.declared.Ran.{Ran}
+use Rattle.rules.specs.Given.{Ran}
 use Rattle.rules.specs.Measure.{blank}
 use Rattle.rules.specs.Acts.{world}
 use Rattle.rules.specs.Run.{trace, enough}

@@ -1,31 +1,12 @@
 -- What is said by a verdict stands in the room. Assumes nothing.
-use mathlib.Core.Path.{◌≡◌, refl, sym, ap, ◌∙◌}
-use mathlib.Core.Bool.{Bool, true, false}
-use mathlib.Core.List.{List, ◌++◌}
-use Prim.Native.Nat.{ℕ, ◌≤◌}
-use native.Mathlib.Nat.{zero-add}
-use native.Mathlib.Omega.{arith}
-use lib.ListN.{length, drop}
-use lib.Seq.{sets-eq}
-use Rattle.common.specs.Stores.{Wrote}
-use Rattle.rules.specs.declared.Refusal.{Refusal}
-use Rattle.rules.specs.declared.Verdict.{Verdict}
-use Rattle.rules.specs.declared.Verdict.TheVariants.{Carried, Refused}
-use Rattle.rules.specs.Report.{refused_line}
+use Rattle.std.proofs.Common.{◌≡◌, refl, sym, ap, ◌∙◌, Bool, List, ◌++◌, ℕ, ◌≤◌, zero-add, arith, length, drop}
+use Rattle.std.proofs.lemmas.List.Edits.{sets-eq}
+use Rattle.rules.specs.Given.{Verdict, Carried, Refused}
 use Rattle.report_verdict.specs.declared.Saying.{Saying}
 use Rattle.report_verdict.specs.Said.{SaysVerdict, Leaves, SaysText}
 
 abbrev saying_of : Bool → ℕ → Saying
 saying_of t n = record { refused = t; end = n }
-
--- a text
-pub text_said : (v : Verdict) (n : ℕ) (room : List ℕ) → v ≡ Carried → SaysVerdict v n room (saying_of false n) room
-text_said v n room e = rw e (record { refused = refl; ended = (refl, refl) })
-
--- a refusal
-pub line_said : (v : Verdict) (n : ℕ) (room : List ℕ) (why : Refusal) (after : List ℕ) (end : ℕ) → v ≡ Refused why → Wrote room 0 (refused_line why) after end
-    → SaysVerdict v n room (saying_of true end) after
-line_said v n room why after end e w = rw e (record { refused = refl; ended = w })
 
 -- a text as a call leaves it
 pub left_whole : (text room : List ℕ) → length text ≤ length room → Leaves text room Carried (length text) (text ++ drop (length text) room)

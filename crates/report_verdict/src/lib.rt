@@ -1,12 +1,14 @@
-// What a program says of a job by the verdict of the call that wrote its text: that text, or one line with the number of the refusal.
+// What a program says of a job by the outcome of the call that wrote its text: that text, or one line with the number of the refusal.
 #![tactic(auto)]
 
-ghost use Rattle.report_verdict.specs.Said.{SaysVerdict};
+ghost use Rattle.rules.specs.Given.{verdict_of};
+ghost use Rattle.report_verdict.specs.Said.{length_of, SaysVerdict};
 
+use common::Writer;
 use report_fault::write_refused;
-use rules::Verdict;
+use rules::Refusal;
 
-// Where what is said ends in the room, and whether it is a refusal.
+// Where what is said ends in the room, and whether it is a refusal: a program writes the one and ends by the other.
 #[derive(Drop)]
 pub struct Saying {
     pub refused: bool,
@@ -14,15 +16,21 @@ pub struct Saying {
 }
 
 // A text of so many bytes that stands at the front of the room, or the line of the refusal, written there.
-pub fn say(verdict: Verdict, length: usize, room: &mut [u8]) -> Saying
-    ensures { SaysVerdict verdict length room.old result room.new }
+pub fn say(outcome: Result<usize, Refusal>, room: &mut [u8]) -> Saying
+    ensures { SaysVerdict (verdict_of outcome) (length_of outcome) room.old result room.new }
 {
-    let Verdict::Refused(why) = verdict else {
-        return Saying {
+    match outcome {
+        Ok(end) => Saying {
             refused: false,
-            end: length,
-        };
-    };
-    let end = write_refused(why, room, 0);
-    Saying { refused: true, end }
+            end,
+        },
+        Err(why) => {
+            let mut out = Writer { room, at: 0 };
+            write_refused(why, &mut out);
+            Saying {
+                refused: true,
+                end: out.at,
+            }
+        }
+    }
 }

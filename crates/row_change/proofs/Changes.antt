@@ -11,7 +11,7 @@ use Rattle.common.proofs.Choices.{le_or_lt}
 use Rattle.rules.specs.declared.Mode.TheVariants.{Ready, Offset, Copy}
 use Rattle.rules.specs.Rows.{changed}
 use Rattle.row_control.specs.Controls.{control_of, fulls, place, Passed}
-use Rattle.row_control.proofs.Controls.{rising, delta_far, delta_near, by_third}
+use Rattle.row_control.proofs.Controls.{rising, far_means, near_means}
 use Rattle.row_control.proofs.Changes.{first, copies, offsets, past}
 use Rattle.row_change.specs.Elements.{Led, Put, Onward}
 
@@ -36,33 +36,37 @@ copy_from n to s a row row' a' to' p =
     copies (control_of 3) n to row (drop a s)
     ∙ rw (p.held, p.from, p.to, add-one, drop-drop (suc n) a s)
 
-module _ (s : List ℕ) (i at : ℕ) (row : List ℕ) (c : ℕ) (h : i < length s) (same : (c ≡ get_or s i 0) × (c < 256)) (row' : List ℕ) (i' at' : ℕ) where
+module _ (s : List ℕ) (i at : ℕ) (row : List ℕ) (c : ℕ) (h : i < length s) (same : c ≡ get_or s i 0) (a to : ℕ) (next : (a ≡ i + 1) × (to ≡ at + c % 32)) (row' : List ℕ) (i' at' : ℕ) where
   -- bytes are replaced
-  pub near_on : (c % 32 ≡ 31 → ⊥) → Put row row' (at + c % 32) (take (c / 32 + 1) (drop (i + 1) s)) (i + 1) (c / 32 + 1) (c / 32 + 1) i' at' → Onward s i at row row' i' at'
+  pub near_on : (c % 32 ≡ 31 → ⊥) → Put row row' to (take (c / 32 + 1) (drop a s)) a (c / 32 + 1) (c / 32 + 1) i' at' → Onward s i at row row' i' at'
   near_on t p =
-      let m = by_third 3 (get_or s i 0) at c same (λ e. omega arith) (λ e. omega arith) (Copy (c / 32) (at + c % 32)) (delta_near c at same.1 t) in
+      let m : control_of 3 (get_or s i 0) at ≡ Copy (c / 32) (at + c % 32) = rw (← same) (near_means c at t) in
+      let e = next.0 in
       record {
-        same = first (control_of 3) s i at row (Copy (c / 32) (at + c % 32)) h (sym m.is) ∙ copy_from (c / 32) (at + c % 32) s (i + 1) row row' i' at' p;
+        same = first (control_of 3) s i at row (Copy (c / 32) (at + c % 32)) h m ∙ copy_from (c / 32) (at + c % 32) s (i + 1) row row' i' at' (rw (next.0, next.1) at p);
         on = omega (arith, p.from);
       }
 
   -- bytes are replaced behind an offset
-  pub far_on : (j there : ℕ) → c % 32 ≡ 31 → length row ≤ 600 → Passed s (i + 1) j → Led s (i + 1) j (at + c % 32) there
+  pub far_on : (j there : ℕ) → c % 32 ≡ 31 → length row ≤ 600 → Passed s a j → Led s a j to there
       → Put row row' there (take (c / 32 + 1) (drop (j + 1) s)) (j + 1) (c / 32 + 1) (c / 32 + 1) i' at' → Onward s i at row row' i' at'
   far_on j there t l p q f =
       let by = control_of 3 in
       let n : ℕ = c / 32 in
-      let m = by_third 3 (get_or s i 0) at c same (λ e. omega arith) (λ e. omega arith) (Offset n (at + 31)) (delta_far c at same.1 t) in
+      let m : control_of 3 (get_or s i 0) at ≡ Offset n (at + 31) = rw (← same) (far_means c at t) in
       let d = drop (i + 1) s in
-      let o = p.is in
+      let x = next.0 in
+      let y = next.1 in
+      let o : j ≡ (i + 1) + fulls d = rw x at p.is in
       let u = f.from in
-      let g : j - (i + 1) ≡ fulls d = omega arith in
+      let g : j - a ≡ fulls d = omega arith in
       let k : (i + 1) + suc (fulls d) ≡ j + 1 = omega arith in
       let v : get_or d (fulls d) 0 ≡ get_or s j 0 = get_or-drop (i + 1) s (fulls d) 0 ∙ ap (λ b. get_or s b 0) (sym o) in
       let r : drop (suc (fulls d)) d ≡ drop (j + 1) s = drop-drop (suc (fulls d)) (i + 1) s ∙ ap (λ a. drop a s) k in
-      let w : (at + 31) + 255 * min (fulls d) 3 + get_or s j 0 ≡ there = rw (← t, ← g) (sym q.is) in
+      let z : at + 31 ≡ to = omega arith in
+      let w : (at + 31) + 255 * min (fulls d) 3 + get_or s j 0 ≡ there = rw (z, ← g) (sym q.is) in
       record {
-        same = first by s i at row (Offset n (at + 31)) h (sym m.is)
+        same = first by s i at row (Offset n (at + 31)) h m
             ∙ offsets by n (at + 31) row d
             ∙ offset_near n (at + 31) (fulls d) (get_or d (fulls d) 0) row (drop (suc (fulls d)) d) l
             ∙ rw (v, r, w) (copy_from n there s (j + 1) row row' i' at' f);

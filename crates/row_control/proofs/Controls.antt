@@ -1,5 +1,5 @@
 -- Laws of the control bytes of all methods. Assumes nothing.
-use mathlib.Core.Path.{◌≡◌, refl}
+use mathlib.Core.Path.{◌≡◌, refl, ◌∙◌}
 use mathlib.Core.Bool.{Bool, true, false, cond}
 use Prim.Native.Nat.{ℕ, ◌+◌, ◌-◌, ◌/◌, ◌%◌, ◌≤◌, ◌<◌}
 use native.Mathlib.Omega.{arith}
@@ -9,7 +9,7 @@ use Rattle.common.proofs.Choices.{choice}
 use Rattle.rules.specs.declared.Mode.{Mode}
 use Rattle.rules.specs.declared.Mode.TheVariants.{Ready, Offset, Copy, Repeat}
 use Rattle.rules.specs.Rows.{control1, control2, control3}
-use Rattle.row_control.specs.Controls.{control_of, count, place, Means}
+use Rattle.row_control.specs.Controls.{control_of, place}
 
 -- a control byte never leads back in the row
 abbrev pub Rising : (ℕ → ℕ → Mode) → Type 0
@@ -52,39 +52,34 @@ levelled method =
     (λ c a b. level_cond (ltb c 128) _ _ _ _ refl (level_cond (eqb c 128) _ _ _ _ refl refl))
     (λ c a b. level_cond (eqb (c % 32) 31) _ _ _ _ refl refl))
 
--- what a control byte of method 2 means
-module _ (c at : ℕ) (small : c < 256) where
-  pub packed_copy : c < 128 → Means (control2 c at) (Copy c at)
-  unfolding count
-  packed_copy h = record { is = rw (lt-ltb c 128 h); small = omega arith }
-
-  pub packed_none : 128 ≤ c → c ≡ 128 → Means (control2 c at) (Ready at)
-  unfolding count
-  packed_none h e = record { is = rw (le-ltb c 128 h, eq-eqb c 128 e); small = omega arith }
-
-  pub packed_run : 128 ≤ c → (c ≡ 128 → ⊥) → Means (control2 c at) (Repeat (257 - c) at)
-  unfolding count
-  packed_run h e = record { is = rw (le-ltb c 128 h, ne_eqb c 128 e); small = omega arith }
-
-  -- of method 3
-  pub delta_far : c % 32 ≡ 31 → Means (control3 c at) (Offset (c / 32) (at + 31))
-  unfolding count
-  delta_far h = record { is = rw (eq-eqb (c % 32) 31 h); small = omega arith }
-
-  pub delta_near : (c % 32 ≡ 31 → ⊥) → Means (control3 c at) (Copy (c / 32) (at + c % 32))
-  unfolding count
-  delta_near h = record { is = rw (ne_eqb (c % 32) 31 h); small = omega arith }
-
--- of any method, where n is the control byte
-module _ (method c at n : ℕ) (same : (n ≡ c) × (n < 256)) where
-  pub by_first : method ≡ 1 → Means (control_of method c at) (Repeat (n + 1) at)
-  unfolding control_of count
-  by_first h = record { is = rw (eq-eqb method 1 h, same.0); small = omega arith }
-
-  pub by_second : (method ≡ 1 → ⊥) → method ≡ 2 → (r : Mode) → Means (control2 n at) r → Means (control_of method c at) r
+-- what each control byte means
+module _ (method c at : ℕ) where
+  pub pair_means : method ≡ 1 → control_of method c at ≡ Repeat (c + 1) at
   unfolding control_of
-  by_second h g r m = rw (ne_eqb method 1 h, eq-eqb method 2 g, ← same.0) m
+  pair_means h = rw (eq-eqb method 1 h)
 
-  pub by_third : (method ≡ 1 → ⊥) → (method ≡ 2 → ⊥) → (r : Mode) → Means (control3 n at) r → Means (control_of method c at) r
+  packed_means : method ≡ 2 → control_of method c at ≡ control2 c at
   unfolding control_of
-  by_third h g r m = rw (ne_eqb method 1 h, ne_eqb method 2 g, ← same.0) m
+  packed_means h = let g : method ≡ 1 → ⊥ = λ e. omega arith in rw (ne_eqb method 1 g, eq-eqb method 2 h)
+
+  pub literal_means : method ≡ 2 → c < 128 → control_of method c at ≡ Copy c at
+  literal_means h l = packed_means h ∙ rw (lt-ltb c 128 l)
+
+  pub nothing_means : method ≡ 2 → c ≡ 128 → control_of method c at ≡ Ready at
+  nothing_means h e = let l : 128 ≤ c = omega arith in packed_means h ∙ rw (le-ltb c 128 l, eq-eqb c 128 e)
+
+  pub run_means : method ≡ 2 → 128 < c → control_of method c at ≡ Repeat (257 - c) at
+  run_means h l =
+      let g : 128 ≤ c = omega arith in
+      let n : c ≡ 128 → ⊥ = λ e. omega arith in
+      packed_means h ∙ rw (le-ltb c 128 g, ne_eqb c 128 n)
+
+-- of method 3
+module _ (c at : ℕ) where
+  pub far_means : c % 32 ≡ 31 → control_of 3 c at ≡ Offset (c / 32) (at + 31)
+  unfolding control_of
+  far_means h = rw (eq-eqb (c % 32) 31 h)
+
+  pub near_means : (c % 32 ≡ 31 → ⊥) → control_of 3 c at ≡ Copy (c / 32) (at + c % 32)
+  unfolding control_of
+  near_means h = rw (ne_eqb (c % 32) 31 h)

@@ -6,11 +6,15 @@ use mathlib.Core.Logic.{⊎_elim}
 use Prim.Native.Nat.{ℕ, zero, suc, ◌+◌, ◌-◌, ◌%◌, ◌≤◌, ◌<◌}
 use native.Mathlib.Omega.{arith}
 use native.Mathlib.Numerals.{add-one}
-use lib.Dec.{leb, eqb, leb-zero, leb-suc-zero, leb-suc-suc}
+use Rattle.std.specs.Prelude.{Option, unwrap_or, position, not}
+use Rattle.std.specs.List.{position_or_len}
+use Rattle.std.proofs.lemmas.List.Recursion.{is_position_or_len}
+use Rattle.std.proofs.lemmas.List.Sums.{prefix_len-le-length}
+use lib.Dec.{leb, eqb, ltb, leb-zero, leb-suc-zero, leb-suc-suc}
 use lib.ListN.{length, get_or, drop, length-drop, drop_of_length-le}
 use lib.Seq.{drop-drop}
-use borrow.Author.Tests.{le-leb, lt-leb, eq-eqb, ne_eqb}
-use Rattle.common.proofs.Choices.{le_or_lt}
+use borrow.Author.Tests.{ltb-false, le-leb, lt-leb, eq-eqb}
+use Rattle.common.proofs.Choices.{choice_by, le_or_lt}
 use Rattle.common.proofs.Places.{cut}
 use Rattle.rules.specs.declared.Mode.{Mode}
 use Rattle.rules.specs.declared.Mode.TheVariants.{Ready, Offset, Copy, Repeat}
@@ -102,17 +106,17 @@ unfolding control_of
 look_pairs method s e = rw (eq-eqb method 1 e) (whole_pairs 0 s)
 
 -- one element later
-pub look_on : (method : ℕ) (s : List ℕ) (i at : ℕ) (m : Mode) (r : ℕ) → i < length s → Means (control_of method (get_or s i 0) at) m → Behind m s (i + 1) r
+pub look_on : (method : ℕ) (s : List ℕ) (i at : ℕ) (m : Mode) (r : ℕ) → i < length s → control_of method (get_or s i 0) at ≡ m → r ≡ (i + 1) + wanted m (drop (i + 1) s)
     → whole_from (control_of method) s i ≡ whole_from (control_of method) s r
 unfolding is_whole after
 look_on method s i at m r h e f =
     let by = control_of method in
     let first : whole_from by s i ≡ is_whole by (by (get_or s i 0) 0) (drop (i + 1) s) = rw (le-leb i (length s) (omega arith), cut s i h) in
     first ∙ whole_level by (levelled method) (by (get_or s i 0) 0) (by (get_or s i 0) at) (drop (i + 1) s) (levelled method (get_or s i 0) 0 at)
-    ∙ ap (λ k. is_whole by k (drop (i + 1) s)) (sym e.is)
+    ∙ ap (λ k. is_whole by k (drop (i + 1) s)) e
     ∙ whole_asked by (levelled method) m (drop (i + 1) s)
     ∙ whole_later by (levelled method) s (i + 1) (wanted m (drop (i + 1) s)) (omega arith)
-    ∙ ap (whole_from by s) (sym f.is)
+    ∙ ap (whole_from by s) (sym f)
 
 -- the look begins
 pub look_start : (by : ℕ → ℕ → Mode) (s : List ℕ) → is_whole by (Ready 0) s ≡ whole_from by s 0
@@ -121,7 +125,7 @@ look_start by s = rw leb-zero
 -- the look goes on
 pub look_again : (method : ℕ) (s : List ℕ) (t : Bool) (i : ℕ) (m : Mode) (r : ℕ) → t ≡ whole_from (control_of method) s i
     → i < length s → Means (control_of method (get_or s i 0) 0) m → Behind m s (i + 1) r → t ≡ whole_from (control_of method) s r
-look_again method s t i m r p h e f = p ∙ look_on method s i 0 m r h e f
+look_again method s t i m r p h e f = p ∙ look_on method s i 0 m r h (sym e.is) f.is
 
 -- the look ends at the end of the payload, or past it
 pub look_end : (by : ℕ → ℕ → Mode) (s : List ℕ) (t : Bool) (i : ℕ) → t ≡ whole_from by s i → length s ≤ i → leb i (length s) ≡ t
@@ -138,50 +142,20 @@ look_end by s t i p h =
 pub look_all : (by : ℕ → ℕ → Mode) (s : List ℕ) (t : Bool) → t ≡ whole_from by s 0 → t ≡ is_whole by (Ready 0) s
 look_all by s t e = e ∙ sym (look_start by s)
 
--- the bytes from i up to j are 255
-pub record Passing (s : List ℕ) (i j : ℕ) : Type 0 where
-  pub on : i ≤ j
-  pub inside : j ≤ length s
-  pub same : i + fulls (drop i s) ≡ j + fulls (drop j s)
-
--- and one more
-pub passing_more : (s : List ℕ) (i j : ℕ) → Passing s i j → j < length s → get_or s j 0 ≡ 255 → Passing s i (j + 1)
+-- the bytes of 255 in front end at the first other byte, or at the end
+fulls_are : (s : List ℕ) → fulls s ≡ position_or_len (λ b. not (eqb b 255)) s
 unfolding fulls
-passing_more s i j p h e =
-    let f : fulls (drop j s) ≡ suc (fulls (drop (j + 1) s)) = rw (cut s j h, eq-eqb (get_or s j 0) 255 e) in
-    let q = p.same in
-    record { on = omega arith; inside = omega arith; same = omega arith }
+fulls_are = is_position_or_len fulls (λ b. not (eqb b 255)) refl (λ b s. turned (eqb b 255) (fulls s))
+  where
+    turned : (t : Bool) (n : ℕ) → cond t (suc n) 0 ≡ cond (not t) 0 (1 + n)
+    turned true n = omega arith
+    turned false n = refl
 
--- and no more: another byte
-pub passing_other : (s : List ℕ) (i j : ℕ) → Passing s i j → j < length s → (get_or s j 0 ≡ 255 → ⊥) → Passed s i j
-unfolding fulls
-passing_other s i j p h e =
-    let f : fulls (drop j s) ≡ 0 = rw (cut s j h, ne_eqb (get_or s j 0) 255 e) in
-    let q = p.same in
-    record { is = omega arith; inside = omega arith }
-
--- and no more: the end
-pub passing_end : (s : List ℕ) (i j : ℕ) → Passing s i j → length s ≤ j → Passed s i j
-unfolding fulls
-passing_end s i j p h =
-    let f : fulls (drop j s) ≡ 0 = rw (drop_of_length-le s h) in
-    let q = p.same in
-    record { is = omega arith; inside = p.inside }
-
--- the place behind what each mode asks for
-module _ (m : Mode) (s : List ℕ) (i : ℕ) where
-  pub behind_ready : (at : ℕ) → m ≡ Ready at → Behind m s i i
-  unfolding wanted
-  behind_ready at e = rw e (record { is = omega arith; on = omega arith })
-
-  pub behind_offset : (n at j : ℕ) → m ≡ Offset n at → Passed s i j → Behind m s i (j + (n + 2))
-  unfolding wanted
-  behind_offset n at j e p = let q = p.is in rw e (record { is = omega arith; on = omega arith })
-
-  pub behind_copy : (n at : ℕ) → m ≡ Copy n at → Behind m s i (i + (n + 1))
-  unfolding wanted
-  behind_copy n at e = rw e (record { is = refl; on = omega arith })
-
-  pub behind_repeat : (n at : ℕ) → m ≡ Repeat n at → Behind m s i (i + 1)
-  unfolding wanted
-  behind_repeat n at e = rw e (record { is = refl; on = omega arith })
+-- the place of the first other byte, or the end, where d are the bytes from i on
+pub passed : (s : List ℕ) (i : ℕ) (d : List ℕ) (r : Option ℕ) → i ≤ length s → d ≡ drop i s → r ≡ position (λ b. not (eqb b 255)) d → Passed s i (i + unwrap_or r (length d))
+passed s i d r h g e =
+    let n = position_or_len (λ b. not (eqb b 255)) d in
+    let l : n ≤ length d = prefix_len-le-length (λ b. not (not (eqb b 255))) d in
+    let f : unwrap_or r (length d) ≡ n = rw e (choice_by (λ (o : Option ℕ). unwrap_or o (length d) ≡ n) (ltb n (length d)) (λ _. refl) (λ t. omega (arith, ltb-false n (length d) t))) in
+    let k : n ≡ fulls (drop i s) = sym (fulls_are d) ∙ ap fulls g in
+    record { is = omega arith; inside = omega (arith, ap length g, length-drop i s) }

@@ -12,35 +12,38 @@ use Rattle.common.proofs.Places.{cut}
 use Rattle.common.proofs.Stores.{sets_out}
 use Rattle.rules.specs.declared.Mode.TheVariants.{Ready, Copy, Repeat}
 use Rattle.rules.specs.Rows.{is_whole, changed}
-use Rattle.row_control.specs.Controls.{control_of, repeated, place, whole_from, Means}
-use Rattle.row_control.proofs.Controls.{rising, packed_copy, packed_none, packed_run, by_first, by_second}
+use Rattle.row_control.specs.Controls.{control_of, repeated, place, wanted, whole_from}
+use Rattle.row_control.proofs.Controls.{rising, pair_means, literal_means, nothing_means, run_means}
 use Rattle.row_control.proofs.Changes.{first, copies, repeats, past}
-use Rattle.row_control.proofs.Whole.{look_start, look_on, behind_ready, behind_copy, behind_repeat}
+use Rattle.row_control.proofs.Whole.{look_start, look_on}
 use Rattle.row_piece.specs.Pieces.{Over, blank_from}
 use Rattle.row_piece.proofs.Clips.{cleared}
 use Rattle.row_piece.proofs.Texts.{over_just, over_blank}
 use Rattle.row_fill.specs.Fills.{Put, Onward, Filled}
 
--- where the byte to repeat is missing, nothing is put
-pub run_none : (n at : ℕ) (s : List ℕ) (i : ℕ) (row : List ℕ) → length s ≤ i → Put row row at (repeated n (drop i s)) i 1 n (i + 1) (at + n)
-unfolding repeated
-run_none n at s i row h = record { over = rw (drop_of_length-le s h) (over_just row row at [] refl); from = refl; to = refl }
+-- the byte at place i is put into n places, and the next places are those behind it
+module _ (n at : ℕ) (s : List ℕ) (i i' at' : ℕ) (next : (i' ≡ i + 1) × (at' ≡ at + n)) (row : List ℕ) where
+  -- where it is missing, nothing is put
+  pub run_none : length s ≤ i → Put row row at (repeated n (drop i s)) i 1 n i' at'
+  unfolding repeated
+  run_none h = record { over = rw (drop_of_length-le s h) (over_just row row at [] refl); from = next.0; to = next.1 }
 
--- where it is there, it is put into n places
-pub run_some : (n at : ℕ) (s : List ℕ) (i : ℕ) (row row' : List ℕ) → i < length s → Over row row' at (replicate n (get_or s i 0)) → Put row row' at (repeated n (drop i s)) i 1 n (i + 1) (at + n)
-unfolding repeated
-run_some n at s i row row' h e = record { over = rw (cut s i h) e; from = refl; to = refl }
+  -- where it is there
+  pub run_some : (row' : List ℕ) → i < length s → Over row row' at (replicate n (get_or s i 0)) → Put row row' at (repeated n (drop i s)) i 1 n i' at'
+  unfolding repeated
+  run_some row' h e = record { over = rw (cut s i h) e; from = next.0; to = next.1 }
 
 -- a byte that is there, n times, is n bytes
 repeated_length : (n : ℕ) (s : List ℕ) (i : ℕ) → i < length s → length (repeated n (drop i s)) ≡ n
 unfolding repeated
 repeated_length n s i h = rw (cut s i h) (length-replicate n (get_or s i 0))
 
-module _ (method : ℕ) (s : List ℕ) (i at : ℕ) (row row' : List ℕ) (h : i < length s) where
+module _ (method : ℕ) (s : List ℕ) (i at : ℕ) (row : List ℕ) (h : i < length s) where
   -- a control byte that asks for bytes to copy
-  copy_on : (n i' at' : ℕ) → Means (control_of method (get_or s i 0) at) (Copy n at) → Put row row' at (take (n + 1) (drop (i + 1) s)) (i + 1) (n + 1) (n + 1) i' at'
+  copy_on : (n : ℕ) (row' : List ℕ) (i' at' : ℕ) → control_of method (get_or s i 0) at ≡ Copy n at → Put row row' at (take (n + 1) (drop (i + 1) s)) (i + 1) (n + 1) (n + 1) i' at'
       → Onward method s i at row row' i' at'
-  copy_on n i' at' m p =
+  unfolding wanted
+  copy_on n row' i' at' m p =
       let o = p.from in
       let t = p.to in
       let d : n + 1 ≡ suc n = omega arith in
@@ -48,54 +51,60 @@ module _ (method : ℕ) (s : List ℕ) (i at : ℕ) (row row' : List ℕ) (h : i
         same = λ q.
             let k : length (take (n + 1) (drop (i + 1) s)) ≡ n + 1 = length-take-le (n + 1) (drop (i + 1) s) (simp length-drop (omega arith)) in
             let b = over_blank row row' at (n + 1) _ p.over k in
-            first (control_of method) s i at (blank_from at row) (Copy n at) h (sym m.is)
+            first (control_of method) s i at (blank_from at row) (Copy n at) h m
             ∙ copies (control_of method) n at (blank_from at row) (drop (i + 1) s)
             ∙ rw (o, t, b, d, drop-drop (suc n) (i + 1) s);
-        rest = rw o (look_on method s i at (Copy n at) _ h m (behind_copy (Copy n at) s (i + 1) n at refl));
+        rest = look_on method s i at (Copy n at) i' h m o;
         on = omega arith;
       }
 
   -- one that asks for a byte to repeat
-  repeat_on : (n i' at' : ℕ) → Means (control_of method (get_or s i 0) at) (Repeat n at) → Put row row' at (repeated n (drop (i + 1) s)) (i + 1) 1 n i' at'
+  repeat_on : (n : ℕ) (row' : List ℕ) (i' at' : ℕ) → control_of method (get_or s i 0) at ≡ Repeat n at → Put row row' at (repeated n (drop (i + 1) s)) (i + 1) 1 n i' at'
       → Onward method s i at row row' i' at'
-  repeat_on n i' at' m p =
+  unfolding wanted
+  repeat_on n row' i' at' m p =
       let o = p.from in
       let t = p.to in
       record {
         same = λ q.
             let k : length (repeated n (drop (i + 1) s)) ≡ n = repeated_length n s (i + 1) (omega arith) in
             let b = over_blank row row' at n _ p.over k in
-            first (control_of method) s i at (blank_from at row) (Repeat n at) h (sym m.is)
+            first (control_of method) s i at (blank_from at row) (Repeat n at) h m
             ∙ repeats (control_of method) n at (blank_from at row) (drop (i + 1) s)
             ∙ rw (o, t, b, drop-drop 1 (i + 1) s);
-        rest = rw o (look_on method s i at (Repeat n at) _ h m (behind_repeat (Repeat n at) s (i + 1) n at refl));
+        rest = look_on method s i at (Repeat n at) i' h m o;
         on = omega arith;
       }
 
-  module _ (c : ℕ) (same : (c ≡ get_or s i 0) × (c < 256)) (i' at' : ℕ) where
-    -- method 1: a pair
-    pub pair_on : method ≡ 1 → Put row row' at (repeated (c + 1) (drop (i + 1) s)) (i + 1) 1 (c + 1) i' at' → Onward method s i at row row' i' at'
-    pair_on e p = repeat_on (c + 1) i' at' (by_first method (get_or s i 0) at c same e) p
+  -- what follows the control byte n
+  module _ (n : ℕ) (same : n ≡ get_or s i 0) (a t : ℕ) (next : (a ≡ i + 1) × (t ≡ at + 0)) where
+    past_it : t ≡ at
+    past_it = omega (arith, next.1)
 
-    module _ (a : 1 ≤ method) (b : method ≤ 2) (e : method ≡ 1 → ⊥) where
+    -- method 1: a pair
+    pub pair_on : (row' : List ℕ) (i' at' : ℕ) → method ≡ 1 → Put row row' t (repeated (n + 1) (drop a s)) a 1 (n + 1) i' at' → Onward method s i at row row' i' at'
+    pair_on row' i' at' e p = repeat_on (n + 1) row' i' at' (rw same (pair_means method (get_or s i 0) at e)) (rw (next.0, past_it) at p)
+
+    module _ (lo : 1 ≤ method) (hi : method ≤ 2) (e : method ≡ 1 → ⊥) where
       -- a literal
-      pub literal_on : c < 128 → Put row row' at (take (c + 1) (drop (i + 1) s)) (i + 1) (c + 1) (c + 1) i' at' → Onward method s i at row row' i' at'
-      literal_on l p = copy_on c i' at' (by_second method (get_or s i 0) at c same e (omega arith) (Copy c at) (packed_copy c at same.1 l)) p
+      pub literal_on : (row' : List ℕ) (i' at' : ℕ) → get_or s i 0 < 128 → Put row row' t (take (n + 1) (drop a s)) a (n + 1) (n + 1) i' at' → Onward method s i at row row' i' at'
+      literal_on row' i' at' l p = copy_on n row' i' at' (rw same (literal_means method (get_or s i 0) at (omega arith) l)) (rw (next.0, past_it) at p)
+
+      -- 128, which asks for nothing
+      pub nothing_on : get_or s i 0 ≡ 128 → Onward method s i at row row a t
+      unfolding wanted
+      nothing_on k =
+          let m = nothing_means method (get_or s i 0) at (omega arith) k in
+          rw (next.0, past_it)
+          (record {
+            same = λ q. first (control_of method) s i at (blank_from at row) (Ready at) h m;
+            rest = look_on method s i at (Ready at) (i + 1) h m (omega arith);
+            on = omega arith;
+          })
 
       -- a run
-      pub run_on : 128 ≤ c → (c ≡ 128 → ⊥) → Put row row' at (repeated (257 - c) (drop (i + 1) s)) (i + 1) 1 (257 - c) i' at' → Onward method s i at row row' i' at'
-      run_on l n p = repeat_on (257 - c) i' at' (by_second method (get_or s i 0) at c same e (omega arith) (Repeat (257 - c) at) (packed_run c at same.1 l n)) p
-
--- method 2: 128, which asks for nothing
-pub nothing_on : (method : ℕ) (s : List ℕ) (i at : ℕ) (row : List ℕ) (c : ℕ) → i < length s → (c ≡ get_or s i 0) × (c < 256) → 1 ≤ method → method ≤ 2 → (method ≡ 1 → ⊥) → 128 ≤ c → c ≡ 128
-    → Onward method s i at row row (i + 1) at
-nothing_on method s i at row c h same a b e l n =
-    let m = by_second method (get_or s i 0) at c same e (omega arith) (Ready at) (packed_none c at same.1 l n) in
-    record {
-      same = λ q. first (control_of method) s i at (blank_from at row) (Ready at) h (sym m.is);
-      rest = look_on method s i at (Ready at) (i + 1) h m (behind_ready (Ready at) s (i + 1) at refl);
-      on = omega arith;
-    }
+      pub run_on : (row' : List ℕ) (i' at' : ℕ) → 128 ≤ get_or s i 0 → (get_or s i 0 ≡ 128 → ⊥) → Put row row' t (repeated (257 - n) (drop a s)) a 1 (257 - n) i' at' → Onward method s i at row row' i' at'
+      run_on row' i' at' l k p = repeat_on (257 - n) row' i' at' (rw same (run_means method (get_or s i 0) at (omega arith) (omega arith))) (rw (next.0, past_it) at p)
 
 -- ---- all of a payload
 

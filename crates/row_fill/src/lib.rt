@@ -6,78 +6,64 @@ ghost use Rattle.std.specs.Prelude.{◌≤◌, ◌<◌, length, take, drop};
 ghost use Rattle.row_control.specs.Controls.{repeated};
 ghost use Rattle.row_fill.specs.Fills.{Small, Put, Onward, Filled};
 
-use common::wide;
+use row_control::Place;
 use row_piece::{clear_from, copy_over, fill_over};
 
-// Where an element ends: the payload's next place and the row's.
-#[derive(Drop)]
-struct Place {
-    from: usize,
-    at: usize,
+// The next n bytes of the payload are put into the row.
+fn literal(n: usize, s: &[u8], p: Place, row: &mut [u8]) -> Place
+    requires { Small n p.at p.from s.now }
+    ensures { Put row.old row.new p.at (take n (drop p.from s.now)) p.from n n result.from result.at }
+{
+    copy_over(row, p.at, s, p.from, n);
+    p.past(n, n)
 }
 
-// The n bytes from place i of the payload on are put into the row.
-fn literal(n: usize, at: usize, s: &[u8], i: usize, row: &mut [u8]) -> Place
-    requires { Small n at i s.now }
-    ensures { Put row.old row.new at (take n (drop i s.now)) i n n result.from result.at }
+// The payload's next byte is put into n places of the row.
+fn run(n: usize, s: &[u8], p: Place, row: &mut [u8]) -> Place
+    requires { Small n p.at p.from s.now }
+    ensures { Put row.old row.new p.at (repeated n (drop p.from s.now)) p.from 1 n result.from result.at }
 {
-    copy_over(row, at, s, i, n);
-    Place {
-        from: i + n,
-        at: at + n,
-    }
-}
-
-// The byte at place i of the payload is put into n places of the row.
-fn run(n: usize, at: usize, s: &[u8], i: usize, row: &mut [u8]) -> Place
-    requires { Small n at i s.now }
-    ensures { Put row.old row.new at (repeated n (drop i s.now)) i 1 n result.from result.at }
-{
-    let next = Place {
-        from: i + 1,
-        at: at + n,
-    };
-    if s.len() <= i {
+    let next = p.past(1, n);
+    if p.from < s.len() {
+        fill_over(row, p.at, n, s[p.from]);
         return next;
     }
-    fill_over(row, at, n, s[i]);
     next
 }
 
-// One element, from place i of the payload, is put into the row from a place on.
-fn element(method: u8, s: &[u8], i: usize, row: &mut [u8], at: usize) -> Place
-    requires { (1 ≤ method) × (method ≤ 2) × (i < length s.now) × (at < 600) }
-    ensures { Onward method s.now i at row.old row.new result.from result.at }
+// One element is put into the row. The tests stand in the order of how often they say what is to be done: a `match` looks for 128 first.
+fn element(method: u8, s: &[u8], p: Place, row: &mut [u8]) -> Place
+    requires { (1 ≤ method) × (method ≤ 2) × (p.from < length s.now) × (p.at < 600) }
+    ensures { Onward method s.now p.from p.at row.old row.new result.from result.at }
 {
-    let c = wide(s[i]);
-    let a = i + 1;
+    let c = s[p.from];
+    let n = usize::from(c);
+    let next = p.past(1, 0);
     if method == 1 {
-        return run(c + 1, at, s, a, row);
+        return run(n + 1, s, next, row);
     }
     if c < 128 {
-        return literal(c + 1, at, s, a, row);
+        return literal(n + 1, s, next, row);
     }
     if c == 128 {
-        return Place { from: a, at };
+        return next;
     }
-    run(257 - c, at, s, a, row)
+    run(257 - n, s, next, row)
 }
 
 // The row filled by a payload. Answers how far the payload was read: where the row is full, the rest of it is not looked at.
+// Each element says how far the next one is.
 pub fn fill_row(method: u8, s: &[u8], row: &mut [u8]) -> usize
     requires { (1 ≤ method) × (method ≤ 2) × (length row.old ≤ 600) }
     ensures { Filled method s.now row.old row.new result }
 {
-    let mut i: usize = 0;
-    let mut at: usize = 0;
-    while i < s.len() {
-        if row.len() <= at {
-            return i;
+    let mut p = Place { from: 0, at: 0 };
+    while p.from < s.len() {
+        if row.len() <= p.at {
+            return p.from;
         }
-        let p = element(method, s, i, row, at);
-        i = p.from;
-        at = p.at;
+        p = element(method, s, p, row);
     }
-    clear_from(row, at);
-    i
+    clear_from(row, p.at);
+    p.from
 }

@@ -4,12 +4,10 @@ use mathlib.Core.List.{List, [], ◌∷◌, ◌++◌}
 use mathlib.Core.Logic.{⊎_elim}
 use Prim.Native.Nat.{ℕ, zero, suc, ◌+◌, ◌-◌, ◌≤◌, ◌<◌}
 use native.Mathlib.Omega.{arith}
-use native.Mathlib.Numerals.{add-one}
 use native.Mathlib.Nat.{le_of_suc-le-suc, not-suc-le-zero}
 use lib.ListN.{length, get_or, take, drop, set, replicate, length-set, length-replicate, length-drop, get_or-replicate, replicate-append-replicate}
 use lib.Seq.{sets, length-sets, length-take-le, take-add, drop-drop, get_or-take, get_or-drop, get_or-set_same, get_or-set_other, ext_get_or}
 use Rattle.common.proofs.Choices.{le_or_lt}
-use Rattle.common.proofs.Places.{cut}
 use Rattle.common.proofs.Stores.{sets_then}
 use Rattle.row_piece.specs.Pieces.{Over, blank_from}
 
@@ -109,13 +107,13 @@ pub record Blocks (d : List ℕ) (at : ℕ) (s : List ℕ) (i n : ℕ) (row : Li
 pub blocks_none : (d : List ℕ) (at : ℕ) (s : List ℕ) (i n : ℕ) → at + n + 16 ≤ length d → i + n + 16 ≤ length s → Blocks d at s i n d 0
 blocks_none d at s i n h l = record { room = h; there = l; near = omega arith; long = refl; held = refl }
 
-pub blocks_more : (d : List ℕ) (at : ℕ) (s : List ℕ) (i n : ℕ) (row block after : List ℕ) (k : ℕ) → Blocks d at s i n row k → k < n → block ≡ take 16 (drop (i + k) s) → after ≡ sets row (at + k) block
-    → Blocks d at s i n after (k + 16)
-blocks_more d at s i n row block after k c h e f =
+pub blocks_more : (d : List ℕ) (at : ℕ) (s : List ℕ) (i n : ℕ) (row after : List ℕ) (k : ℕ) → Blocks d at s i n row k → k < n → after ≡ sets row (at + k) (take 16 (drop (i + k) s)) → Blocks d at s i n after (k + 16)
+blocks_more d at s i n row after k c h f =
     let r = c.there in
+    let block = take 16 (drop (i + k) s) in
     let l : length (take k (drop i s)) ≡ k = length-take-le k (drop i s) (simp length-drop (omega arith)) in
     let o : at + k ≡ at + length (take k (drop i s)) = rw l in
-    let g : block ≡ take 16 (drop k (drop i s)) = e ∙ rw (drop-drop k i s) in
+    let g : block ≡ take 16 (drop k (drop i s)) = rw (drop-drop k i s) in
     record {
       room = c.room;
       there = c.there;
@@ -133,43 +131,33 @@ blocks_end d at s i n row k c h =
     over_from d row at (take k (drop i s)) (take n (drop i s)) c.held (omega arith)
     (λ j l. get_or-take k (drop i s) j 0 (omega arith) ∙ sym (get_or-take n (drop i s) j 0 (omega arith)))
 
--- two fours that may overlap
-pub fours : (row first after : List ℕ) (at : ℕ) (s : List ℕ) (i n : ℕ) (a b : List ℕ) → 4 ≤ n → n ≤ 8 → at + n ≤ length row → i + n ≤ length s → a ≡ take 4 (drop i s) → b ≡ take 4 (drop ((i + n) - 4) s)
-    → first ≡ sets row at a → after ≡ sets first ((at + n) - 4) b → after ≡ sets row at (take n (drop i s))
-fours row first after at s i n a b h k p q e f g o =
-    let x : length a ≡ 4 = ap length e ∙ length-take-le 4 (drop i s) (simp length-drop (omega arith)) in
-    let y : length b ≡ 4 = ap length f ∙ length-take-le 4 (drop ((i + n) - 4) s) (simp length-drop (omega arith)) in
+-- the last sixteen
+pub blocks_last : (d : List ℕ) (at : ℕ) (s : List ℕ) (i n : ℕ) (row after : List ℕ) (k : ℕ) → Blocks d at s i n row k → k < n → n - k ≤ 16 → after ≡ sets row (at + k) (take 16 (drop (i + k) s)) → Over d after at (take n (drop i s))
+blocks_last d at s i n row after k c h l f = blocks_end d at s i n after (k + 16) (blocks_more d at s i n row after k c h f) (omega arith)
+
+-- the first w bytes and the last w, which may overlap
+pub ends : (w : ℕ) (row first after : List ℕ) (at : ℕ) (s : List ℕ) (i n : ℕ) → w ≤ n → n ≤ w + w → at + n ≤ length row → i + n ≤ length s → first ≡ sets row at (take w (drop i s))
+    → after ≡ sets first ((at + n) - w) (take w (drop ((i + n) - w) s)) → after ≡ sets row at (take n (drop i s))
+ends w row first after at s i n h k p q g o =
+    let a = take w (drop i s) in
+    let b = take w (drop ((i + n) - w) s) in
+    let x : length a ≡ w = length-take-le w (drop i s) (simp length-drop (omega arith)) in
+    let y : length b ≡ w = length-take-le w (drop ((i + n) - w) s) (simp length-drop (omega arith)) in
     let z : length (take n (drop i s)) ≡ n = length-take-le n (drop i s) (simp length-drop (omega arith)) in
     let m : length first ≡ length row = ap length g ∙ length-sets row at a in
-    let u : length after ≡ length first = ap length o ∙ length-sets first ((at + n) - 4) b in
-    let w : (j : ℕ) → get_or after j 0 ≡ get_or (sets first ((at + n) - 4) b) j 0 = λ j. ap (λ l. get_or l j 0) o in
+    let u : length after ≡ length first = ap length o ∙ length-sets first ((at + n) - w) b in
+    let f : (j : ℕ) → get_or after j 0 ≡ get_or (sets first ((at + n) - w) b) j 0 = λ j. ap (λ l. get_or l j 0) o in
     let v : (j : ℕ) → get_or first j 0 ≡ get_or (sets row at a) j 0 = λ j. ap (λ l. get_or l j 0) g in
     text_is row after at (take n (drop i s)) (u ∙ m)
-    (λ j l. w j ∙ before_text first ((at + n) - 4) b j (omega arith) ∙ v j ∙ before_text row at a j l)
+    (λ j l. f j ∙ before_text first ((at + n) - w) b j (omega arith) ∙ v j ∙ before_text row at a j l)
     (λ j l r. ⊎_elim
-    (λ (c : n ≤ j + 4).
-    let d : (i + n) - 4 + ((j + 4) - n) ≡ i + j = omega arith in
-    w (at + j) ∙ in_text first ((at + n) - 4) b ((j + 4) - n) (at + j) (omega arith) (omega arith) (omega arith) ∙ ap (λ l. get_or l ((j + 4) - n) 0) f
-    ∙ get_or-take 4 (drop ((i + n) - 4) s) ((j + 4) - n) 0 (omega arith) ∙ get_or-drop ((i + n) - 4) s ((j + 4) - n) 0 ∙ ap (λ y. get_or s y 0) d
+    (λ (c : n ≤ j + w).
+    let d : (i + n) - w + ((j + w) - n) ≡ i + j = omega arith in
+    f (at + j) ∙ in_text first ((at + n) - w) b ((j + w) - n) (at + j) (omega arith) (omega arith) (omega arith)
+    ∙ get_or-take w (drop ((i + n) - w) s) ((j + w) - n) 0 (omega arith) ∙ get_or-drop ((i + n) - w) s ((j + w) - n) 0 ∙ ap (λ y. get_or s y 0) d
     ∙ sym (get_or-take n (drop i s) j 0 (omega arith) ∙ get_or-drop i s j 0))
-    (λ (c : j + 4 < n).
-    w (at + j) ∙ before_text first ((at + n) - 4) b (at + j) (omega arith) ∙ v (at + j) ∙ in_text row at a j (at + j) refl (omega arith) (omega arith) ∙ ap (λ l. get_or l j 0) e
-    ∙ get_or-take 4 (drop i s) j 0 (omega arith) ∙ sym (get_or-take n (drop i s) j 0 (omega arith)))
-    (le_or_lt n (j + 4)))
-    (λ j l r. w j ∙ behind_text first ((at + n) - 4) b j (omega arith) ∙ v j ∙ behind_text row at a j (omega arith))
-
--- one byte, two, three
-module _ (row : List ℕ) (at : ℕ) (s : List ℕ) (i n : ℕ) (there : i + n ≤ length s) where
-  pub one_byte : n ≡ 1 → set row at (get_or s i 0) ≡ sets row at (take n (drop i s))
-  one_byte e = rw (e, cut s i (omega arith))
-
-  pub two_bytes : n ≡ 2 → set (set row at (get_or s i 0)) (at + 1) (get_or s (i + 1) 0) ≡ sets row at (take n (drop i s))
-  two_bytes e = rw (e, cut s i (omega arith), cut s (i + 1) (omega arith), add-one)
-
-  pub three_bytes : 1 ≤ n → n ≤ 3 → (n ≡ 1 → ⊥) → (n ≡ 2 → ⊥) → set (set (set row at (get_or s i 0)) (at + 1) (get_or s (i + 1) 0)) (at + 2) (get_or s (i + 2) 0) ≡ sets row at (take n (drop i s))
-  three_bytes a b c d =
-      let e : n ≡ 3 = omega arith in
-      let f : (i + 1) + 1 ≡ i + 2 = omega arith in
-      let g : at + 2 ≡ suc (suc at) = omega arith in
-      let h : at + 1 ≡ suc at = omega arith in
-      rw (e, cut s i (omega arith), cut s (i + 1) (omega arith), f, cut s (i + 2) (omega arith), g, h)
+    (λ (c : j + w < n).
+    f (at + j) ∙ before_text first ((at + n) - w) b (at + j) (omega arith) ∙ v (at + j) ∙ in_text row at a j (at + j) refl (omega arith) (omega arith)
+    ∙ get_or-take w (drop i s) j 0 (omega arith) ∙ sym (get_or-take n (drop i s) j 0 (omega arith)))
+    (le_or_lt n (j + w)))
+    (λ j l r. f j ∙ behind_text first ((at + n) - w) b j (omega arith) ∙ v j ∙ behind_text row at a j (omega arith))

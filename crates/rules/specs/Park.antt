@@ -1,5 +1,5 @@
 -- Paper 02, P1: a state written as text, and read back.
-use Rattle.std.specs.Prelude.{ℕ, ◌-◌, ◌/◌, Bool, true, false, cond, not, ◌&&◌, List, [], ◌∷◌, ◌++◌, ltb, length, take, drop, replicate}
+use Rattle.std.specs.Prelude.{Result, Ok, Err, ℕ, ◌-◌, ◌/◌, Bool, true, false, cond, not, ◌&&◌, List, [], ◌∷◌, ◌++◌, ltb, length, take, drop, replicate}
 use Rattle.common.specs.Lists.{pad}
 use Rattle.rules.specs.declared.Spot.{Spot}
 use Rattle.rules.specs.declared.Refusal.{Refusal}
@@ -7,10 +7,11 @@ use Rattle.rules.specs.declared.Refusal.TheVariants.{PageMeasure, UnsoundState, 
 use Rattle.rules.specs.declared.Sequence.{Sequence}
 use Rattle.rules.specs.declared.Sequence.TheVariants.{Closed, Open}
 use Rattle.rules.specs.declared.State.{State}
-use Rattle.rules.specs.declared.Verdict.{Verdict}
-use Rattle.rules.specs.declared.Verdict.TheVariants.{Carried, Refused}
-use Rattle.rules.specs.declared.Parking.{Parking}
-use Rattle.rules.specs.declared.Unparked.{Unparked}
+use Rattle.rules.specs.Given.{Verdict}
+use Rattle.rules.specs.Given.{Carried, Refused}
+use Rattle.rules.specs.Given.{Parking}
+use Rattle.rules.specs.Given.{Unparked}
+use Rattle.rules.specs.declared.Stored.{Stored}
 use Rattle.rules.specs.Measure.{allowed, measure_of, stack_holds, row_holds, origin}
 use Rattle.rules.specs.States.{beside_of}
 use Rattle.rules.specs.Sound.{sound}
@@ -125,6 +126,11 @@ stowed v n room = record { parking = record { verdict = v; length = n }; room = 
 abbrev pub stow_refused : Refusal → List ℕ → Stowed
 stow_refused r room = stowed (Refused r) 0 room
 
+-- what a program's answer says: the length of the text, or why there is none
+abbrev pub parking : Result ℕ Refusal → Parking
+parking (Ok n) = (stowed Carried n []).parking
+parking (Err why) = (stow_refused why []).parking
+
 -- 16: "sequence open"
 abbrev pub is_open : Sequence → Bool
 is_open Closed = false
@@ -147,6 +153,11 @@ no_state = blank_state (replicate stack_holds origin) (replicate row_holds 0)
 
 abbrev pub read_refused : Refusal → Unparked
 read_refused r = record { verdict = Refused r; wide = 0; high = 0; state = no_state }
+
+-- what a program's answer says: what the text holds, or why it holds nothing
+abbrev pub unparked : Result Stored Refusal → Unparked
+unparked (Ok j) = record { verdict = Carried; wide = j.wide; high = j.high; state = j.state }
+unparked (Err why) = read_refused why
 
 abbrev pub answered : Answer → Unparked
 answered (given j) = record { verdict = Carried; wide = j.W; high = j.H; state = j.state }

@@ -1,25 +1,20 @@
 -- The page made ready for a run. Assumes nothing.
 use mathlib.Core.Path.{◌≡◌, refl, sym, ap, ◌∙◌}
 use mathlib.Core.Bool.{Bool, true, false, cond, ◌||◌}
-use mathlib.Core.List.{List, ◌∷◌, ◌++◌, append-nil}
-use Prim.Native.Nat.{ℕ, zero, suc, ◌-◌, ◌≤◌, min}
-use native.Mathlib.Nat.{min-eq_left, le_refl, sub-zero}
+use mathlib.Core.List.{List, ◌∷◌, ◌++◌}
+use Prim.Native.Nat.{ℕ, zero, suc, ◌≤◌, min}
 use native.Mathlib.Omega.{arith}
 use lib.Dec.{eqb}
-use lib.ListN.{length, take, drop, replicate, length-append, length-replicate, drop_of_length-le}
-use lib.Seq.{take_all, length-take-le, take-append-le, take-take}
+use lib.ListN.{length, take, drop, replicate, length-append, length-replicate}
+use lib.Seq.{length-take-le, take-append-le, take-take}
 use Rattle.dot_page.specs.Zeros.{FirstZero}
 use Rattle.rules.specs.declared.Measure.{Measure}
 use Rattle.rules.specs.declared.State.{State}
-use Rattle.rules.specs.declared.Ran.{Ran}
+use Rattle.rules.specs.Given.{Ran}
 use Rattle.rules.specs.Measure.{page_bytes, blank}
 use Rattle.rules.specs.Acts.{over}
 use Rattle.rules.specs.Run.{run_from, run}
 use Rattle.run_items.specs.Turns.{RunsOn, StillBlank}
-
--- all of the page zeroed
-pub cleared : (p after : List ℕ) (n : ℕ) → n ≡ length p → after ≡ replicate (min n (length p)) 0 ++ drop n p → after ≡ replicate (length p) 0
-cleared p after n e h = h ∙ rw (e, min-eq_left (le_refl (length p)), drop_of_length-le p (le_refl (length p))) (append-nil (replicate (length p) 0))
 
 module _ (g : Measure) (s p ready : List ℕ) (t : State) (place allowance : ℕ) (x : Bool) (e : x ≡ over t (drop place s)) (l : length p ≡ page_bytes g) where
   -- a run on the page made ready
@@ -39,19 +34,13 @@ take_zeros (suc n) zero h = absurd (omega arith)
 take_zeros (suc n) (suc m) h = ap (λ (l : List ℕ). 0 ∷ l) (take_zeros n m (omega arith))
 
 -- of a part from the start
-pub known_part : (n k m : ℕ) (p : List ℕ) → k ≤ length p → m ≡ min n k → FirstZero n p → FirstZero m (take (k - 0) p)
+pub known_part : (n k m : ℕ) (p : List ℕ) → k ≤ length p → m ≡ min n k → FirstZero n p → FirstZero m (take k p)
 known_part n k m p l e h =
-    rw (sub-zero k, e)
+    rw e
     record {
       inside = rw (length-take-le k p l) (omega arith);
       zero = take-take (min n k) k p (omega arith) ∙ sym (take-take (min n k) n p (omega arith)) ∙ ap (take (min n k)) h.zero ∙ take_zeros (min n k) n (omega arith);
     }
-
--- all of a page that is known to be zero to its end
-pub known_all : (n : ℕ) (p : List ℕ) → FirstZero n p → length p ≤ n → p ≡ replicate (length p) 0
-known_all n p h l =
-    let e : n ≡ length p = let i = h.inside in omega arith in
-    sym (take_all n p l) ∙ h.zero ∙ rw e
 
 -- they are so with other bytes behind
 pub known_before : (n : ℕ) (p rest : List ℕ) → FirstZero n p → FirstZero n (p ++ rest)

@@ -13,7 +13,6 @@ use Rattle.rules.specs.Measure.{blank}
 use Rattle.rules.specs.Acts.{Act, type, control, escape, order, print, draw, next, next_all, ends_page, shown, world, show, show_all, step}
 use Rattle.rules.specs.Run.{page_of}
 use Rattle.theorems.proofs.Pages.{step_single, show_all-core, show_all-blank}
-use Rattle.state_pen.specs.declared.Pen.{Pen}
 use Rattle.run_items.specs.Turns.{Taken, shown_by, ItemDone, StillBlank}
 
 -- on a page that was blank at first nothing was drawn as long as it is unused
@@ -76,10 +75,6 @@ module _ {g : Measure} {t : State} {p s : List ℕ} {at : ℕ} {r : Taken} {afte
 
 -- ---- what a run knows of the page
 -- all that was known before where the page is unused, or was when it was ended; else nothing
-pub blank_known : (g : Measure) (p : List ℕ) (zeros : ℕ) (p' : List ℕ) (zeros' : ℕ) (u : Bool) → zeros' ≡ cond u 0 zeros → (u ≡ false → p ≡ blank g → p' ≡ blank g) → StillBlank g p zeros p' zeros'
-blank_known g p zeros p' zeros' true e h = record { few = omega arith; still = λ n k. absurd (omega arith) }
-blank_known g p zeros p' zeros' false e h = record { few = omega arith; still = λ n k. h refl k }
-
--- a page that is left as a loop left it
-pub blank_left : (ended ended' before before' : Bool) (n n' : Pen) → ended ≡ ended' → before ≡ before' → n ≡ n' → cond ended before n.used ≡ false → cond ended' before' n'.used ≡ false
-blank_left ended ended' before before' n n' e f h u = rw (e, f, h) at u
+pub blank_known : (g : Measure) (p : List ℕ) (known : ℕ) (p' : List ℕ) (left : ℕ) (u : Bool) → left ≡ cond u 0 known → (u ≡ false → p ≡ blank g → p' ≡ blank g) → StillBlank g p known p' left
+blank_known g p known p' left true e h = record { few = omega arith; still = λ n k. absurd (omega arith) }
+blank_known g p known p' left false e h = record { few = omega arith; still = λ n k. h refl k }

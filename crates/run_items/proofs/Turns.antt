@@ -6,8 +6,8 @@ use Prim.Native.Nat.{ℕ, suc, ◌+◌, ◌-◌, ◌≤◌, ◌<◌}
 use native.Mathlib.Nat.{sub-zero}
 use native.Mathlib.Omega.{arith}
 use lib.Dec.{eqb, ltb}
-use lib.ListN.{length, drop, get_or, drop_of_length-le}
-use borrow.Author.Tests.{ltb-true, eqb-true, lt-ltb, le-ltb}
+use lib.ListN.{length, drop, get_or}
+use borrow.Author.Tests.{ltb-true, eqb-true}
 use Rattle.common.specs.Lists.{is_nil}
 use Rattle.common.proofs.Choices.{and_true}
 use Rattle.common.proofs.Places.{cut}
@@ -15,12 +15,12 @@ use Rattle.rules.specs.declared.Measure.{Measure}
 use Rattle.rules.specs.declared.Sequence.{Sequence}
 use Rattle.rules.specs.declared.Sequence.TheVariants.{Closed, Open}
 use Rattle.rules.specs.declared.Finding.{Finding}
-use Rattle.rules.specs.declared.Finding.TheVariants.{Nothing, NotCarried, NotAllowed, EndsInside, CannotStand, StackLimit, NotNow, DamagedRow}
-use Rattle.rules.specs.declared.Verdict.TheVariants.{Carried}
+use Rattle.rules.specs.declared.Finding.TheVariants.{Nothing}
+use Rattle.rules.specs.Given.{Carried}
 use Rattle.rules.specs.declared.Core.{Core}
 use Rattle.rules.specs.declared.Beside.{Beside}
 use Rattle.rules.specs.declared.State.{State}
-use Rattle.rules.specs.declared.Ran.{Ran}
+use Rattle.rules.specs.Given.{Ran}
 use Rattle.rules.specs.Findings.{is_clean}
 use Rattle.rules.specs.States.{state_of}
 use Rattle.rules.specs.Items as rule
@@ -38,10 +38,12 @@ use Rattle.state_pen.specs.declared.Pen.{Pen}
 use Rattle.state_pen.specs.Pens.{pen_of, core_of}
 use Rattle.do_deed.specs.declared.Deed.{Deed}
 use Rattle.do_deed.specs.Acted.{Acted, acted_of, acted, page_after, ActedOn}
-use Rattle.do_deed.specs.Deeds.{whole_of, DeedOn}
+use Rattle.do_deed.specs.Deeds.{whole_of, pen_after, stack_by, DeedOn}
 use Rattle.do_deed.proofs.Acts.{text_done}
-use Rattle.rules.specs.Measure.{blank, origin}
+use Rattle.rules.specs.Measure.{blank}
 use Rattle.run_items.proofs.Blank.{Undrawn, page_none, blank_goes, blank_behind}
+use Rattle.run_items.specs.declared.Stop.{Stop}
+use Rattle.run_items.specs.Stops.{no_stop, stop_behind}
 use Rattle.run_items.specs.Turns.{Taken, text_next, shown_by, ItemDone, stop_of, RunsOn}
 use Rattle.theorems.specs.Facts.{Fits, Shaped, SoundState}
 use Rattle.theorems.proofs.Streams.{step_shaped}
@@ -83,59 +85,10 @@ module _ (s : List ℕ) (at : ℕ) (q : Sequence) where
       go true = refl
       go false = refl
 
-  -- at the end there is one where a sequence is open
-  pub over_end : (r : Bool) → length s ≤ at → r ≡ is_closed q → r ≡ (is_closed q && is_nil (drop at s))
-  over_end r h e = rw (drop_of_length-le s h) (e ∙ go (is_closed q))
-    where
-      go : (t : Bool) → t ≡ (t && true)
-      go true = refl
-      go false = refl
-
-  -- space or text, where no sequence is open
-  pub text_there : (r t : Bool) → at < length s → t ≡ is_closed q → t ≡ true → r ≡ is_text (get_or s at 0) → r ≡ text_next s at q
-  text_there r t h e f k = rw (lt-ltb at (length s) h, ← e, f) k
-
-  -- none beyond the end
-  pub text_beyond : length s ≤ at → false ≡ text_next s at q
-  text_beyond h = rw (le-ltb at (length s) h)
-
-  -- none in an open sequence
-  pub text_not : (t : Bool) → at < length s → t ≡ is_closed q → t ≡ false → false ≡ text_next s at q
-  text_not t h e f = rw (lt-ltb at (length s) h, ← e, f)
-
 -- ---- the loop
-abbrev ran_of : State → ℕ → Finding → ℕ → Spot → Bool → ℕ → Ran
-ran_of t at f found began ended done = record { verdict = Carried; state = t; place = at; finding = f; found = found; began = began; ended = ended; done = done }
-
--- nothing was found and no page ended, as long as a run goes on
-pub record Quiet (f : Finding) (n : ℕ) (b : Spot) (t : Bool) : Type 0 where
-  pub finding : f ≡ Nothing
-  pub found : n ≡ 0
-  pub began : b ≡ origin
-  pub ended : t ≡ false
-
-pub quiet_first : Quiet Nothing 0 origin false
-quiet_first = record { finding = refl; found = refl; began = refl; ended = refl }
-
--- an item behind which a run goes on
-pub quiet_goes : (y : Bool) (f : Finding) (n : ℕ) (b : Spot) (t : Bool) → y ≡ (is_clean f && not t) → y ≡ true → n ≡ 0 → b ≡ origin → Quiet f n b t
-quiet_goes y f n b t j k z w =
-    let q = and_true (is_clean f) (not t) (sym j ∙ k) in
-    record { finding = clean f q.0; found = z; began = w; ended = off t q.1 }
-  where
-    off : (b : Bool) → not b ≡ true → b ≡ false
-    off true e = absurd (false≢true e)
-    off false e = refl
-
-    clean : (x : Finding) → is_clean x ≡ true → x ≡ Nothing
-    clean Nothing e = refl
-    clean EndsInside e = absurd (false≢true e)
-    clean CannotStand e = absurd (false≢true e)
-    clean NotCarried e = absurd (false≢true e)
-    clean NotAllowed e = absurd (false≢true e)
-    clean StackLimit e = absurd (false≢true e)
-    clean NotNow e = absurd (false≢true e)
-    clean DamagedRow e = absurd (false≢true e)
+-- what it gives
+abbrev ran_of : State → ℕ → Stop → ℕ → Ran
+ran_of t at x done = record { verdict = Carried; state = t; place = at; finding = x.finding; found = x.found; began = x.began; ended = x.ended; done = done }
 
 -- a run is under way: `done` items are done; what is left to do leads to the outcome; the state is sound; nothing is drawn yet where the page is
 -- unused, which was `first`
@@ -148,27 +101,23 @@ pub record Going (g : Measure) (s : List ℕ) (allow : ℕ) (o : Outcome) (t : S
 
 module _ (g : Measure) (fit : Fits g) (s : List ℕ) (allow : ℕ) (o : Outcome) (t : State) (at done : ℕ) {first : List ℕ} (p : List ℕ) (h : Going g s allow o t at done first p) where
   -- the allowance is used up
-  pub turn_full : (f : Finding) (n : ℕ) (b : Spot) (ended : Bool) → Quiet f n b ended → allow ≤ done → RunsOn o (ran_of t at f n b ended done) p
+  pub turn_full : allow ≤ done → RunsOn o (ran_of t at no_stop done) p
   unfolding run_from
-  turn_full f n b ended q l =
+  turn_full l =
       let z : allow - done ≡ 0 = omega arith in
       let e : halted t at done p ≡ o = rw z at h.left in
-      rw (q.finding, q.found, q.began, q.ended) (record { given = ap (λ (x : Outcome). x.ran) e; lent = ap (λ (x : Outcome). x.page) e })
-
-  -- a page that is not ended is blank as long as it is unused, if it was at first
-  pub turn_still : (ended before behind : Bool) → ended ≡ false → behind ≡ t.core.used → cond ended before behind ≡ false → first ≡ blank g → p ≡ blank g
-  turn_still ended before behind e f u k = h.undrawn k (sym f ∙ (rw e at u))
+      record { given = ap (λ (x : Outcome). x.ran) e; lent = ap (λ (x : Outcome). x.page) e }
 
   module _ (l : done < allow) where
     one_more : allow - done ≡ suc (allow - (done + 1))
     one_more = omega arith
 
     -- there is no item to do
-    pub turn_over : (y : Finding) (n : ℕ) (b : Spot) (ended : Bool) → Quiet y n b ended → (x : Bool) → x ≡ over t (drop at s) → x ≡ true → RunsOn o (ran_of t at y n b ended done) p
+    pub turn_over : (x : Bool) → x ≡ over t (drop at s) → x ≡ true → RunsOn o (ran_of t at no_stop done) p
     unfolding run_from
-    turn_over y n b ended q x e f =
+    turn_over x e f =
         let k : halted t at done p ≡ o = rw (← e, f) at (rw one_more at h.left) in
-        rw (q.finding, q.found, q.began, q.ended) (record { given = ap (λ (z : Outcome). z.ran) k; lent = ap (λ (z : Outcome). z.page) k })
+        record { given = ap (λ (z : Outcome). z.ran) k; lent = ap (λ (z : Outcome). z.page) k }
 
     module _ (x : Bool) (e : x ≡ over t (drop at s)) (f : x ≡ false) (r : Taken) (after : List ℕ) (d : ItemDone g t p s at r after) where
       -- what is left to do behind it, and what the run comes to where it stops
@@ -191,12 +140,12 @@ module _ (g : Measure) (fit : Fits g) (s : List ℕ) (allow : ℕ) (o : Outcome)
           twice false = refl
 
       -- an item that stops the run
-      pub turn_stops : (y : Bool) → y ≡ (is_clean r.finding && not r.ended) → y ≡ false → (v : Ran) → v ≡ stop_of r at t.core.at (done + 1) → RunsOn o v after
-      turn_stops y j k v i =
+      pub turn_stops : (y : Bool) → y ≡ (is_clean r.finding && not r.ended) → y ≡ false → RunsOn o (stop_of r at t.core.at (done + 1)) after
+      turn_stops y j k =
           let w = shown_by g (step g t (drop at s)) t p in
           let q : (is_clean (step g t (drop at s)).done.finding && is_nil w.handed) ≡ false = same_test w.handed d.ended ∙ sym j ∙ k in
           let z : stop ≡ o = rw q at turned in
-          record { given = rw (← z) (i ∙ rw (d.state, d.next, d.finding, d.ended)); lent = d.page ∙ ap (λ (v : Outcome). v.page) z }
+          record { given = rw (← z) (rw (d.state, d.next, d.finding, d.ended)); lent = d.page ∙ ap (λ (v : Outcome). v.page) z }
 
       -- what it leaves of a page that was blank, where that is unused, or was when it was ended
       pub turn_blank : cond r.ended t.core.used r.state.core.used ≡ false → first ≡ blank g → after ≡ blank g
@@ -217,15 +166,6 @@ module _ (g : Measure) (fit : Fits g) (s : List ℕ) (allow : ℕ) (o : Outcome)
             sound = rw d.state (step_sound g fit t (drop at s) u h.shaped h.sound);
             undrawn = blank_goes d first h.undrawn n;
           }
-
--- no finding was nowhere
-pub spot_none : (f : Finding) (at : Spot) (x : Bool) → x ≡ is_clean f → x ≡ true → origin ≡ spot_of f at
-spot_none f at x e h = rw (← e, h)
-
--- what a run gives that stops behind an item
-pub stop_is : (r : Taken) (begins : ℕ) (from : Spot) (done found : ℕ) (began : Spot) → found ≡ place_of r.finding begins → began ≡ spot_of r.finding from
-    → ran_of r.state r.next r.finding found began r.ended done ≡ stop_of r begins from done
-stop_is r begins from done found began e b = rw (e, b)
 
 -- a text byte is no ESC
 pub text_plain : (b : ℕ) → is_text b ≡ true → eqb b 27 ≡ false
@@ -290,38 +230,30 @@ module _ (g : Measure) (fit : Fits g) (s : List ℕ) (allow : ℕ) (o : Outcome)
       go Closed e h v i = turn_goes g fit s allow o (state_of (core_of n k seed) m Closed) at done p h l false v refl (taken_of (state_of (core_of n' k seed) m Closed) (at + 1) Nothing false) p i true refl refl
       go (Open first group) e h v i = absurd (false≢true (ap is_closed e))
 
--- an item done on the parts of a core
-pub deed_done : (g : Measure) (n : Pen) (l : List Spot) (seed : List ℕ) (m : Beside) (q : Sequence) (p s : List ℕ) (at : ℕ) (r : ReadItem) (d : Deed) (seed' p' : List ℕ) (c : Core) → at ≤ length s → ItemAt s at q r
-    → DeedOn g (λ (c : Core). mean g (item_in s r.item) c m) n seed p d seed' p' → (whole_of n l seed' d).core ≡ c
-    → ItemDone g (state_of (core_of n l seed) m q) p s at (taken_of (state_of c d.beside r.sequence) r.next d.finding d.ended) p'
-deed_done g n l seed m q p s at r d seed' p' c i h k e = rw (← e) (item_done g (state_of (core_of n l seed) m q) p s at (whole_of n l seed' d) p' r i h (k.acted l))
+-- an item done on the parts of a core: its pen n, its stack l and its seed row; behind it they are n', l' and seed'
+module _ (g : Measure) (n : Pen) (l : List Spot) (seed : List ℕ) (m : Beside) (q : Sequence) (p s : List ℕ) (at : ℕ) (r : ReadItem) (d : Deed) (seed' p' : List ℕ) (i : at ≤ length s) (j : ItemAt s at q r)
+    (k : DeedOn g (λ (c : Core). mean g (item_in s r.item) c m) n seed p d seed' p') (n' : Pen) (l' : List Spot) (e : n' ≡ pen_after d l) (f : l' ≡ stack_by d.stacking n d.pen.depth l) where
+  abbrev behind : State
+  behind = state_of (core_of n' l' seed') d.beside r.sequence
 
--- the core of a pen that was taken from it
-pub pen_back : (n : Pen) (c : Core) → n ≡ pen_of c → core_of n c.stack c.seed ≡ c
-pen_back n c e = rw e
+  deed_done : ItemDone g (state_of (core_of n l seed) m q) p s at (taken_of behind r.next d.finding d.ended) p'
+  deed_done = rw (e, f) (item_done g (state_of (core_of n l seed) m q) p s at (whole_of n l seed' d) p' r i j (k.acted l))
 
--- a run whose state was taken apart gives what it gives in that state
-pub run_whole : (g : Measure) (s : List ℕ) (allow place : ℕ) (t : State) (n : Pen) (p : List ℕ) (r : Ran) (after : List ℕ) → n ≡ pen_of t.core
-    → RunsOn (run_from g allow 0 place (state_of (core_of n t.core.stack t.core.seed) t.beside t.sequence) p (drop place s)) r after → RunsOn (run_from g allow 0 place t p (drop place s)) r after
-run_whole g s allow place t n p r after e h = rw (pen_back n t.core e) at h
+  module _ (fit : Fits g) (allow : ℕ) (o : Outcome) (done : ℕ) {first : List ℕ} (h : Going g s allow o (state_of (core_of n l seed) m q) at done first p) (u : done < allow)
+      (x : Bool) (v : x ≡ over (state_of (core_of n l seed) m q) (drop at s)) (w : x ≡ false) where
+    -- the run goes on behind it
+    pub deed_goes : (y : Bool) → y ≡ (is_clean d.finding && not d.ended) → y ≡ true → Going g s allow o behind r.next (done + 1) first p'
+    deed_goes = turn_goes g fit s allow o (state_of (core_of n l seed) m q) at done p h u x v w (taken_of behind r.next d.finding d.ended) p' deed_done
 
--- what a loop is left with
-pub left_with : (o : Outcome) (p : List ℕ) (n : Pen) (l : List Spot) (seed : List ℕ) (m : Beside) (q : Sequence) (at done : ℕ) (f : Finding) (found : ℕ) (began : Spot) (ended : Bool)
-    (p' : List ℕ) (n' : Pen) (l' : List Spot) (seed' : List ℕ) (m' : Beside) (q' : Sequence) (at' done' : ℕ) (f' : Finding) (found' : ℕ) (began' : Spot) (ended' : Bool) (c : Core)
-    → p ≡ p' → n ≡ n' → l ≡ l' → seed ≡ seed' → m ≡ m' → q ≡ q' → at ≡ at' → done ≡ done' → f ≡ f' → found ≡ found' → began ≡ began' → ended ≡ ended'
-    → c ≡ core_of n l seed → RunsOn o (ran_of (state_of (core_of n' l' seed') m' q') at' f' found' began' ended' done') p' → RunsOn o (ran_of (state_of c m q) at f found began ended done) p
-left_with o p n l seed m q at done f found began ended p' n' l' seed' m' q' at' done' f' found' began' ended' c e0 e1 e2 e3 e4 e5 e6 e7 e8 e9 e10 e11 k h = rw (k, e0, e1, e2, e3, e4, e5, e6, e7, e8, e9, e10, e11) h
+    -- or stops
+    pub deed_stops : (y : Bool) → y ≡ (is_clean d.finding && not d.ended) → y ≡ false → RunsOn o (ran_of behind r.next (stop_behind d at n) (done + 1)) p'
+    deed_stops = turn_stops g fit s allow o (state_of (core_of n l seed) m q) at done p h u x v w (taken_of behind r.next d.finding d.ended) p' deed_done
 
--- a run goes on behind an item without a finding that ends no page
-pub goes_quiet : (f : Finding) (t : Bool) → f ≡ Nothing → t ≡ false → true ≡ (is_clean f && not t)
-goes_quiet f t e h = rw (e, h)
+    -- a page that was blank is so where it is unused behind the item, or was when the item ended it
+    pub deed_blank : cond d.ended n.used n'.used ≡ false → first ≡ blank g → p' ≡ blank g
+    deed_blank = turn_blank g fit s allow o (state_of (core_of n l seed) m q) at done p h u x v w (taken_of behind r.next d.finding d.ended) p' deed_done
 
--- a run that has not begun
-pub going_first : (g : Measure) (s : List ℕ) (allow place : ℕ) (t : State) (p : List ℕ) → place ≤ length s → Shaped t.core → SoundState g t
-    → Going g s allow (run_from g allow 0 place t p (drop place s)) t place 0 p p
-going_first g s allow place t p i h k = record { left = rw (sub-zero allow); inside = i; shaped = h; sound = k; undrawn = λ e u. e }
-
--- nor has one whose state was taken apart
-pub going_apart : (g : Measure) (s : List ℕ) (allow place : ℕ) (t : State) (n : Pen) (p : List ℕ) → n ≡ pen_of t.core → place ≤ length s → Shaped t.core → SoundState g t
-    → Going g s allow (run_from g allow 0 place (state_of (core_of n t.core.stack t.core.seed) t.beside t.sequence) p (drop place s)) (state_of (core_of n t.core.stack t.core.seed) t.beside t.sequence) place 0 p p
-going_apart g s allow place t n p e i h k = rw (pen_back n t.core e) (going_first g s allow place t p i h k)
+-- a run that has not begun, whose state was taken apart
+pub going_first : (g : Measure) (s : List ℕ) (allow place : ℕ) (t : State) (n : Pen) (p : List ℕ) → n ≡ pen_of t.core → place ≤ length s → Shaped t.core → SoundState g t
+    → Going g s allow (run_from g allow 0 place t p (drop place s)) (state_of (core_of n t.core.stack t.core.seed) t.beside t.sequence) place 0 p p
+going_first g s allow place t n p e i h k = rw e (record { left = rw (sub-zero allow); inside = i; shaped = h; sound = k; undrawn = λ e u. e })

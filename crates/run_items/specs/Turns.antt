@@ -6,11 +6,11 @@ use Rattle.rules.specs.declared.Sequence.{Sequence}
 use Rattle.rules.specs.declared.Spot.{Spot}
 use Rattle.rules.specs.declared.Finding.{Finding}
 use Rattle.rules.specs.declared.State.{State}
-use Rattle.rules.specs.declared.Ran.{Ran}
+use Rattle.rules.specs.Given.{Ran}
 use Rattle.rules.specs.Measure.{blank}
 use Rattle.rules.specs.Items.{is_text}
 use Rattle.rules.specs.Acts.{World, world, show_all, Step, step, is_closed}
-use Rattle.rules.specs.declared.Verdict.TheVariants.{Carried}
+use Rattle.rules.specs.Given.{Carried}
 use Rattle.rules.specs.Run.{Outcome, page_of, place_of, spot_of}
 
 -- whether the item at a place is space or text: no sequence is open there

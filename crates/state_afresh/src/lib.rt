@@ -1,31 +1,29 @@
-// Paper 01, "Measures": the state afresh. A measure within 4,800 by 6,800 dots is asked for; beyond it lengths would not fit.
+// Paper 01, "Measures": the state afresh.
 #![tactic(auto)]
 
-ghost use Rattle.std.specs.Prelude.{◌≡◌};
-ghost use Rattle.rules.specs.Measure.{Bounded};
+ghost use Rattle.std.specs.Prelude.{◌≡◌, true};
+ghost use Rattle.rules.specs.Measure.{allowed, measure_of};
 ghost use Rattle.rules.specs.States.{fresh_top, fresh_layout, fresh_core, afresh};
 
-use rules::{Beside, Core, Layout, Measure, Raster, Sequence, Spot, State};
-use state_page::{first_line_at, into_height, width};
+use rules::{Beside, Core, Layout, Page, Raster, Sequence, Spot, State};
+use state_page::{first_line_at, into_height, measure_of, width};
 
 // The top margin of a page afresh.
-fn fresh_top(g: Measure) -> u32
+fn fresh_top(g: Page) -> u32
     ensures { result ≡ fresh_top g }
 {
-    if 150 < g.high { 3600 } else { 0 }
+    if 150 < g.high() { 3600 } else { 0 }
 }
 
 // Margins, motion and line termination afresh.
-fn fresh_layout(g: Measure) -> Layout
-    requires { Bounded g }
+#[tactic(auto, unfolding(rules::specs::States::fresh_layout))]
+fn fresh_layout(g: Page) -> Layout
     ensures { result ≡ fresh_layout g }
 {
-    let right = width(g);
-    let top = fresh_top(g);
     Layout {
         left: 0,
-        right,
-        top,
+        right: width(g),
+        top: fresh_top(g),
         hmi: 720,
         vmi: 1200,
         termination: 0,
@@ -33,42 +31,46 @@ fn fresh_layout(g: Measure) -> Layout
 }
 
 // The core afresh.
-pub fn fresh_core(g: Measure) -> Core
-    requires { Bounded g }
+#[tactic(auto, unfolding(rules::specs::States::fresh_core, rules::specs::States::fresh_raster))]
+pub fn fresh_core(g: Page) -> Core
     ensures { result ≡ fresh_core g }
 {
     let layout = fresh_layout(g);
-    let y = into_height(g, first_line_at(layout));
-    let at = Spot { x: 0, y };
-    let raster = Raster {
-        resolution: 75,
-        started: false,
-        margin: 0,
-    };
-    let stack = [Spot { x: 0, y: 0 }; 20];
-    let seed = [0u8; 600];
     Core {
-        at,
+        at: Spot {
+            x: 0,
+            y: into_height(g, first_line_at(layout)),
+        },
         layout,
-        raster,
+        raster: Raster {
+            resolution: 75,
+            started: false,
+            margin: 0,
+        },
         used: false,
         depth: 0,
-        stack,
-        seed,
+        stack: [Spot { x: 0, y: 0 }; 20],
+        seed: [0; 600],
     }
 }
 
 // The state afresh.
-pub fn afresh(g: Measure) -> State
-    requires { Bounded g }
+#[tactic(auto, unfolding(rules::specs::States::afresh))]
+pub fn afresh(g: Page) -> State
     ensures { result ≡ afresh g }
 {
-    let core = fresh_core(g);
-    let beside = Beside { method: 0 };
-    let sequence = Sequence::Closed;
     State {
-        core,
-        beside,
-        sequence,
+        core: fresh_core(g),
+        beside: Beside { method: 0 },
+        sequence: Sequence::Closed,
     }
+}
+
+// The state afresh on a page of this width and height, in dots.
+#[tactic(auto, unfolding(rules::specs::Measure::allowed))]
+pub fn afresh_on(w: usize, h: usize) -> State
+    requires { allowed w h ≡ true }
+    ensures { result ≡ afresh (measure_of w h) }
+{
+    afresh(Page::new(measure_of(w, h)))
 }

@@ -4,10 +4,11 @@ use mathlib.Core.Bool.{Bool, true, false, not, ◌&&◌}
 use mathlib.Core.List.{List, [], ◌∷◌, ◌++◌}
 use Prim.Native.Nat.{ℕ, zero, suc, ◌+◌, ◌*◌, ◌/◌, ◌%◌, ◌≤◌, ◌<◌}
 use native.Mathlib.Omega.{arith}
-use native.Mathlib.Nat.{div-add-mod, div-div-eq-div-mul, not-suc-le-zero}
+use native.Mathlib.Nat.{not-suc-le-zero}
+use Rattle.std.proofs.lemmas.Nat.{from_le_bytes-to_le_bytes_2, from_le_bytes-to_le_bytes_4}
 use lib.Dec.{eqb, leb}
 use lib.ListN.{length, get_or, take, drop, length-append}
-use lib.Seq.{take-suc, take_all, get_or-drop}
+use lib.Seq.{get_or-drop}
 use borrow.Author.Tests.{leb-true, eqb-true}
 use Rattle.common.specs.Choice.{flagged}
 use Rattle.common.proofs.Choices.{and_true}
@@ -15,26 +16,16 @@ use Rattle.rules.specs.declared.Measure.{Measure}
 use Rattle.rules.specs.declared.Spot.{Spot}
 use Rattle.rules.specs.Measure.{LW, LH, origin}
 use Rattle.rules.specs.Sound.{in_page, all_in_page, all_free}
-use Rattle.state_load.specs.Kept.{u32_at, spot_at, table, spot_bytes, stack_bytes}
+use Rattle.state_load.specs.Kept.{u32_at, spot_at, spot_bytes, stack_bytes}
 
 -- ---- numbers
 -- four bytes of a number below 2^32 are the number
 pub four_back : (n : ℕ) → n ≤ 4294967295 → n % 256 + 256 * (n / 256 % 256) + 65536 * (n / 65536 % 256 + 256 * (n / 16777216 % 256)) ≡ n
-four_back n h =
-    let a = div-add-mod n 256 in
-    let b = div-add-mod (n / 256) 256 in
-    let c = div-add-mod (n / 65536) 256 in
-    let e : n / 256 / 256 ≡ n / 65536 = div-div-eq-div-mul n 256 256 in
-    let f : n / 65536 / 256 ≡ n / 16777216 = div-div-eq-div-mul n 65536 256 in
-    let d : n / 16777216 % 256 ≡ n / 16777216 = let k : n / 16777216 ≤ 255 = omega arith in omega (arith, k) in
-    omega (arith, a, b, c, d, e, f)
+four_back n h = omega (arith, from_le_bytes-to_le_bytes_4 n (omega arith))
 
 -- two bytes of one below 2^16
 pub two_back : (n : ℕ) → n ≤ 65535 → n % 256 + 256 * (n / 256 % 256) ≡ n
-two_back n h =
-    let a = div-add-mod n 256 in
-    let d : n / 256 % 256 ≡ n / 256 = let k : n / 256 ≤ 255 = omega arith in omega (arith, k) in
-    omega (arith, a, d)
+two_back n h = omega (arith, from_le_bytes-to_le_bytes_2 n (omega arith))
 
 -- a flag
 pub flag_back : (t : Bool) → not (eqb (flagged t) 0) ≡ t
@@ -57,15 +48,6 @@ pub spot_drop : (b : List ℕ) (n at : ℕ) → spot_at b (n + at) ≡ spot_at (
 spot_drop b n at =
     let e : n + at + 4 ≡ n + (at + 4) = omega arith in
     rw (e, u32_drop b n at, u32_drop b n (at + 4))
-
--- ---- a table of a list's entries is the list's front
-pub table_front : {A : Type 0} (n : ℕ) (f : ℕ → A) (l : List A) (d : A) → n ≤ length l → ((i : ℕ) → i < length l → f i ≡ get_or l i d) → table n f ≡ take n l
-unfolding table
-table_front zero f l d h e = refl
-table_front (suc n) f l d h e = rw (take-suc l n d h, e n h, table_front n f l d (omega arith) e)
-
-pub table_whole : {A : Type 0} (n : ℕ) (f : ℕ → A) (l : List A) (d : A) → length l ≡ n → ((i : ℕ) → i < length l → f i ≡ get_or l i d) → table n f ≡ l
-table_whole n f l d h e = table_front n f l d (omega (arith, h)) e ∙ take_all n l (omega (arith, h))
 
 -- ---- the stack
 -- places that four bytes hold

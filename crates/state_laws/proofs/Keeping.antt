@@ -14,8 +14,8 @@ use Rattle.rules.specs.declared.Measure.{Measure}
 use Rattle.rules.specs.declared.Sequence.{Sequence}
 use Rattle.rules.specs.declared.Sequence.TheVariants.{Closed, Open}
 use Rattle.rules.specs.declared.Refusal.TheVariants.{PageMeasure, PageBuffer, StreamLength, UnsoundState, StartPlace}
-use Rattle.rules.specs.declared.Verdict.{Verdict}
-use Rattle.rules.specs.declared.Verdict.TheVariants.{Carried, Refused}
+use Rattle.rules.specs.Given.{Verdict}
+use Rattle.rules.specs.Given.{Carried, Refused}
 use Rattle.rules.specs.declared.Core.{Core}
 use Rattle.rules.specs.declared.State.{State}
 use Rattle.rules.specs.Measure.{LW, LH, allowed, measure_of, page_bytes, longest_stream, origin}
@@ -28,10 +28,10 @@ use Rattle.theorems.proofs.Runs.{run_shaped}
 use Rattle.theorems.proofs.Sound.{state_facts}
 use Rattle.theorems.proofs.Theorems.{calls_keep_sound}
 use Rattle.state_load.specs.Kept.{u64_at, spot_at, stack_at, seed_at, layout_at, raster_at, core_at, state_takes, is_state, sequence_at, state_at, spot_bytes, stack_bytes, length_bytes, mode_bytes, depth_bytes, front_bytes, state_bytes}
-use Rattle.state_load.proofs.Tables.{spot_is, table_length}
-use Rattle.state_load.proofs.Parts.{layout_is, raster_is, core_is, state_is, open_first}
+use Rattle.state_load.proofs.Tables.{table_length, table_whole}
+use Rattle.state_laws.proofs.Parts.{layout_is, raster_is, core_is, state_is, open_first, spot_is}
 use Rattle.state_laws.specs.Statements.{StateIsReadBack, StateTakesItsBytes, NoStateIsRefused, CallsGoOn}
-use Rattle.state_laws.proofs.Bytes.{four_back, two_back, flag_back, flag_small, table_whole, AllFit, stack_fit, stack_length, stack_back, spot_drop}
+use Rattle.state_laws.proofs.Bytes.{four_back, two_back, flag_back, flag_small, AllFit, stack_fit, stack_length, stack_back, spot_drop}
 
 -- a state's bytes, with a and b for its sequence and more behind them
 abbrev bytes : Core → ℕ → ℕ → ℕ → List ℕ → List ℕ

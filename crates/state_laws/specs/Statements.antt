@@ -2,7 +2,7 @@
 use Rattle.std.specs.Prelude.{◌≡◌, true, false, List, ◌++◌, ℕ, ◌≤◌, length, drop}
 use Rattle.std.proofs.lemmas.List.Edits.{sets}
 use Rattle.rules.specs.declared.Measure.{Measure}
-use Rattle.rules.specs.declared.Verdict.TheVariants.{Carried}
+use Rattle.rules.specs.Given.{Carried}
 use Rattle.rules.specs.declared.State.{State}
 use Rattle.rules.specs.Measure.{allowed, measure_of}
 use Rattle.rules.specs.Sound.{sound}

@@ -1,39 +1,37 @@
--- Numbers and arrays read from bytes. Assumes nothing.
-use mathlib.Core.Path.{◌≡◌, refl, sym, ap, ◌∙◌}
-use mathlib.Core.List.{List, [], ◌∷◌, ◌++◌, append_assoc, append-nil}
-use Prim.Native.Nat.{ℕ, zero, suc, ◌+◌, ◌*◌, ◌-◌, ◌≤◌, ◌<◌}
+-- Arrays read from bytes. Assumes nothing.
+use Prim.{tt}
+use mathlib.Core.Path.{◌≡◌, refl, sym, ◌∙◌, subst}
+use mathlib.Core.List.{List}
+use Prim.Native.Nat.{ℕ, zero, suc, ◌+◌, ◌<◌}
 use native.Mathlib.Omega.{arith}
-use lib.ListN.{length, get_or, set, replicate, length-append}
-use lib.Seq.{set_at}
-use Rattle.state_load.specs.Kept.{u32_at, spot_at, table}
-use Rattle.rules.specs.Measure.{spot}
+use denote.Param.Members.{Mut, Called}
+use Rattle.std.specs.Prelude.{length, get_or, slice_index_or}
+use Rattle.std.specs.Array.{IsFromFnResultFrom, IsFromFnResult}
+use Rattle.std.proofs.lemmas.List.FromFn.{length-map-range_with_len, fill_by_all}
+use Rattle.state_load.specs.Kept.{table}
 
 module _ {A : Type 0} where
   -- a table has as many entries as it says
   pub table_length : (n : ℕ) (f : ℕ → A) → length (table n f) ≡ n
   unfolding table
-  table_length zero f = refl
-  table_length (suc n) f = length-append (table n f) (f n ∷ []) ∙ ap (λ k. k + 1) (table_length n f) ∙ omega arith
+  table_length n f = length-map-range_with_len f 0 n
 
-  -- one entry more
-  pub table_more : (n i : ℕ) (f : ℕ → A) (o v : A) (l : List A) → i < n → l ≡ table i f ++ replicate (n - i) o → v ≡ f i → set l i v ≡ table (i + 1) f ++ replicate (n - (i + 1)) o
+  -- a list is the table of its entries
+  pub table_whole : (n : ℕ) (f : ℕ → A) (l : List A) (d : A) → length l ≡ n → ((i : ℕ) → i < length l → f i ≡ get_or l i d) → table n f ≡ l
   unfolding table
-  table_more n i f o v l h e k =
-      let z : n - i ≡ suc (n - (i + 1)) = omega arith in
-      let w : i + 1 ≡ suc i = omega arith in
-      rw (e, z, k, w) (set_at (table i f) o (replicate (n - suc i) o) (f i) i (table_length i f) ∙ sym (append_assoc (table i f) (f i ∷ []) (replicate (n - suc i) o)))
+  table_whole n f l d h e = sym (fill_by_all f l n d h (λ k p. sym (e k (omega (arith, h, p)))))
 
-  -- all of them
-  pub table_all : (n i : ℕ) (f : ℕ → A) (o : A) (l : List A) → n ≤ i → i ≤ n → l ≡ table i f ++ replicate (n - i) o → l ≡ table n f
-  table_all n i f o l h k e =
-      let w : i ≡ n = omega arith in
-      let z : n - n ≡ 0 = omega arith in
-      rw (w, z) at e ∙ append-nil (table n f)
+-- an array that a closure made of the index is the table of what it gives
+module _ {F A : Type 0} (g : Mut F (ℕ × Unit {0}) A) (f : F) (h : ℕ → A) (ys : List A) (gives : (i : ℕ) (y : A) (q : F) → Called g f (i, tt) y q → (q ≡ f) × (y ≡ h i)) where
+  made_at : (n i k : ℕ) (p : F) → p ≡ f → IsFromFnResultFrom g p ys i n → k < n → (d : A) → slice_index_or ys (i + k) d ≡ h (i + k)
+  made_at zero i k p e r l d = absurd (omega arith)
+  made_at (suc n) i zero p e (q, y, a, c, r) l d =
+      let z : i + 0 ≡ i = omega arith in
+      rw z (a.1 d ∙ (gives i y q (subst (λ w. Called g w (i, tt) y q) e c)).1)
+  made_at (suc n) i (suc k) p e (q, y, a, c, r) l d =
+      let z : i + suc k ≡ i + 1 + k = omega arith in
+      rw z (made_at n (i + 1) k q (gives i y q (subst (λ w. Called g w (i, tt) y q) e c)).0 r (omega arith) d)
 
--- four bytes are two and two
-pub u32_is : (b : List ℕ) (at low high : ℕ) → low ≡ get_or b at 0 + 256 * get_or b (at + 1) 0 → high ≡ get_or b (at + 2) 0 + 256 * get_or b (at + 2 + 1) 0 → low + 65536 * high ≡ u32_at b at
-u32_is b at low high e f = let z : at + 2 + 1 ≡ at + 3 = omega arith in rw (e, f, z)
-
--- two numbers are a place
-pub spot_is : (b : List ℕ) (at x y : ℕ) → x ≡ u32_at b at → y ≡ u32_at b (at + 4) → spot x y ≡ spot_at b at
-spot_is b at x y e f = rw (e, f)
+  pub made_table : (n : ℕ) (d : A) → IsFromFnResult g f ys n → ys ≡ table n h
+  unfolding table
+  made_table n d m = fill_by_all h ys n d m.long (λ k l. let z : 0 + k ≡ k = omega arith in let r = made_at n 0 k f refl m.each l d in rw z at r)

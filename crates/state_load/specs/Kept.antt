@@ -1,5 +1,6 @@
 -- A state as bytes: ROV_STATE and the offsets of include/rovinuset.h.
-use Rattle.std.specs.Prelude.{ℕ, zero, suc, ◌+◌, ◌*◌, ◌/◌, ◌%◌, Bool, cond, not, ◌&&◌, List, [], ◌∷◌, ◌++◌, eqb, leb, length, get_or}
+use Rattle.std.specs.Prelude.{ℕ, ◌+◌, ◌*◌, ◌/◌, ◌%◌, Bool, cond, not, ◌&&◌, List, [], ◌∷◌, ◌++◌, eqb, leb, length, get_or, map}
+use Rattle.std.specs.List.{range_with_len}
 use Rattle.std.proofs.lemmas.List.Edits.{sets}
 use Rattle.common.specs.Choice.{flagged}
 use Rattle.rules.specs.declared.Spot.{Spot}
@@ -9,8 +10,8 @@ use Rattle.rules.specs.declared.Sequence.{Sequence}
 use Rattle.rules.specs.declared.Sequence.TheVariants.{Closed, Open}
 use Rattle.rules.specs.declared.Core.{Core}
 use Rattle.rules.specs.declared.State.{State}
-use Rattle.rules.specs.declared.Verdict.{Verdict}
-use Rattle.rules.specs.declared.Verdict.TheVariants.{Carried, Refused}
+use Rattle.rules.specs.Given.{Verdict}
+use Rattle.rules.specs.Given.{Carried, Refused}
 use Rattle.rules.specs.Measure.{spot}
 use Rattle.rules.specs.States.{beside_of, state_of}
 
@@ -31,14 +32,17 @@ spot_at b at = spot (u32_at b at) (u32_at b (at + 4))
 
 -- f 0, .. , f (n - 1)
 unfoldable pub table : {A : Type 0} → ℕ → (ℕ → A) → List A
-table zero f = []
-table (suc n) f = table n f ++ (f n ∷ [])
+table n f = map f (range_with_len 0 n)
 
 abbrev pub stack_at : List ℕ → List Spot
 stack_at b = table 20 (λ i. spot_at b (48 + 8 * i))
 
+-- n bytes from a place on; a byte past the end is 0
+abbrev pub bytes_at : ℕ → List ℕ → ℕ → List ℕ
+bytes_at n b at = table n (λ i. get_or b (at + i) 0)
+
 abbrev pub seed_at : List ℕ → List ℕ
-seed_at b = table 600 (λ i. get_or b (208 + i) 0)
+seed_at b = bytes_at 600 b 208
 
 abbrev pub layout_at : List ℕ → Layout
 layout_at b = record { left = u32_at b 8; right = u32_at b 12; top = u32_at b 16; hmi = u32_at b 20; vmi = u32_at b 24; termination = get_or b 34 0 }

@@ -4,40 +4,48 @@
 #![tactic(auto)]
 
 ghost use Rattle.std.specs.Prelude.{◌≡◌, cond, not, ◌+◌, ◌*◌, ◌≤◌, eqb, get_or};
-ghost use Rattle.state_load.specs.Kept.{u32_at, u64_at, spot_at, layout_at, raster_at, stack_at, seed_at, core_at, is_state, sequence_at, state_takes, state_at};
+ghost use Rattle.state_load.specs.Kept.{u32_at, u64_at, spot_at, layout_at, raster_at, bytes_at, stack_at, core_at, is_state, sequence_at, state_takes, state_at};
 
-use common::{byte_at, wide};
+use common::byte_at;
 use rules::{Beside, Core, Layout, Raster, Sequence, Spot, State};
+use std::array;
 
 // The bytes that a state takes: ROV_STATE.
 pub const STATE_BYTES: usize = 808;
 
-// Two bytes as a number.
-fn u16_at(b: &[u8], at: usize) -> usize
-    requires { at + 2 ≤ state_takes }
-    ensures { (result ≡ get_or b.now at 0 + 256 * get_or b.now (at + 1) 0) × (result ≤ 65535) }
+// So many bytes from a place on.
+fn bytes_at<const N: usize>(b: &[u8], at: usize) -> [u8; N]
+    requires { at + N ≤ state_takes }
+    ensures { result ≡ bytes_at N b.now at }
 {
-    wide(byte_at(b, at)) + 256 * wide(byte_at(b, at + 1))
+    array::from_fn(|i| byte_at(b, at + i))
+}
+
+// Two bytes as a number, the lowest first.
+#[tactic(auto, unfolding(crate::specs::Kept::table))]
+fn u16_at(b: &[u8], at: usize) -> u16
+    requires { at + 2 ≤ state_takes }
+    ensures { result ≡ get_or b.now at 0 + 256 * get_or b.now (at + 1) 0 }
+{
+    u16::from_le_bytes(bytes_at(b, at))
 }
 
 // Four bytes as a number.
+#[tactic(auto, unfolding(crate::specs::Kept::table))]
 fn u32_at(b: &[u8], at: usize) -> u32
     requires { at + 4 ≤ state_takes }
     ensures { result ≡ u32_at b.now at }
 {
-    let low = u16_at(b, at);
-    let high = u16_at(b, at + 2);
-    (low + 65536 * high) as u32
+    u32::from_le_bytes(bytes_at(b, at))
 }
 
 // Eight bytes as a number.
+#[tactic(auto, unfolding(crate::specs::Kept::table))]
 fn u64_at(b: &[u8], at: usize) -> usize
     requires { at + 8 ≤ state_takes }
     ensures { result ≡ u64_at b.now at }
 {
-    let low = u32_at(b, at) as usize;
-    let high = u32_at(b, at + 4) as usize;
-    low + 4294967296 * high
+    usize::from_le_bytes(bytes_at(b, at))
 }
 
 // A place on the page.
@@ -45,36 +53,17 @@ fn spot_at(b: &[u8], at: usize) -> Spot
     requires { at + 8 ≤ state_takes }
     ensures { result ≡ spot_at b.now at }
 {
-    let x = u32_at(b, at);
-    let y = u32_at(b, at + 4);
-    Spot { x, y }
+    Spot {
+        x: u32_at(b, at),
+        y: u32_at(b, at + 4),
+    }
 }
 
 // The stack's twenty places.
 fn stack_at(b: &[u8]) -> [Spot; 20]
     ensures { result ≡ stack_at b.now }
 {
-    let mut stack = [Spot { x: 0, y: 0 }; 20];
-    let mut i: usize = 0;
-    while i < 20 {
-        let p = spot_at(b, 48 + 8 * i);
-        stack[i] = p;
-        i += 1;
-    }
-    stack
-}
-
-// The seed row.
-fn seed_at(b: &[u8]) -> [u8; 600]
-    ensures { result ≡ seed_at b.now }
-{
-    let mut seed = [0u8; 600];
-    let mut i: usize = 0;
-    while i < 600 {
-        seed[i] = byte_at(b, 208 + i);
-        i += 1;
-    }
-    seed
+    array::from_fn(|i| spot_at(b, 48 + 8 * i))
 }
 
 // A byte that is a flag.
@@ -88,19 +77,13 @@ fn flag_at(b: &[u8], at: usize) -> bool
 fn layout_at(b: &[u8]) -> Layout
     ensures { result ≡ layout_at b.now }
 {
-    let left = u32_at(b, 8);
-    let right = u32_at(b, 12);
-    let top = u32_at(b, 16);
-    let hmi = u32_at(b, 20);
-    let vmi = u32_at(b, 24);
-    let termination = byte_at(b, 34);
     Layout {
-        left,
-        right,
-        top,
-        hmi,
-        vmi,
-        termination,
+        left: u32_at(b, 8),
+        right: u32_at(b, 12),
+        top: u32_at(b, 16),
+        hmi: u32_at(b, 20),
+        vmi: u32_at(b, 24),
+        termination: byte_at(b, 34),
     }
 }
 
@@ -108,13 +91,10 @@ fn layout_at(b: &[u8]) -> Layout
 fn raster_at(b: &[u8]) -> Raster
     ensures { result ≡ raster_at b.now }
 {
-    let resolution = u16_at(b, 32) as u16;
-    let started = flag_at(b, 36);
-    let margin = u32_at(b, 28);
     Raster {
-        resolution,
-        started,
-        margin,
+        resolution: u16_at(b, 32),
+        started: flag_at(b, 36),
+        margin: u32_at(b, 28),
     }
 }
 
@@ -122,21 +102,14 @@ fn raster_at(b: &[u8]) -> Raster
 fn core_at(b: &[u8]) -> Core
     ensures { result ≡ core_at b.now }
 {
-    let at = spot_at(b, 0);
-    let layout = layout_at(b);
-    let raster = raster_at(b);
-    let used = flag_at(b, 37);
-    let depth = u64_at(b, 40);
-    let stack = stack_at(b);
-    let seed = seed_at(b);
     Core {
-        at,
-        layout,
-        raster,
-        used,
-        depth,
-        stack,
-        seed,
+        at: spot_at(b, 0),
+        layout: layout_at(b),
+        raster: raster_at(b),
+        used: flag_at(b, 37),
+        depth: u64_at(b, 40),
+        stack: stack_at(b),
+        seed: bytes_at(b, 208),
     }
 }
 
@@ -144,13 +117,7 @@ fn core_at(b: &[u8]) -> Core
 fn is_state(b: &[u8]) -> bool
     ensures { result ≡ is_state b.now }
 {
-    if b.len() < STATE_BYTES {
-        return false;
-    }
-    if 1 < byte_at(b, 36) {
-        return false;
-    }
-    byte_at(b, 37) <= 1
+    STATE_BYTES <= b.len() && byte_at(b, 36) <= 1 && byte_at(b, 37) <= 1
 }
 
 // The row method; one that there is not where the bytes are no state.
@@ -164,28 +131,22 @@ fn method_at(b: &[u8]) -> u8
 fn sequence_at(b: &[u8]) -> Sequence
     ensures { result ≡ sequence_at b.now }
 {
-    let first = byte_at(b, 38);
-    let group = byte_at(b, 39);
-    if first != 0 {
-        return Sequence::Open { first, group };
+    match (byte_at(b, 38), byte_at(b, 39)) {
+        (0, 0) => Sequence::Closed,
+        (first, group) => Sequence::Open { first, group },
     }
-    if group != 0 {
-        return Sequence::Open { first, group };
-    }
-    Sequence::Closed
 }
 
 // The state that bytes are read as.
+#[tactic(auto, unfolding(crate::specs::Kept::state_at))]
 pub fn read_state(b: &[u8]) -> State
     ensures { result ≡ state_at b.now }
 {
-    let core = core_at(b);
-    let method = method_at(b);
-    let beside = Beside { method };
-    let sequence = sequence_at(b);
     State {
-        core,
-        beside,
-        sequence,
+        core: core_at(b),
+        beside: Beside {
+            method: method_at(b),
+        },
+        sequence: sequence_at(b),
     }
 }

@@ -5,7 +5,8 @@
 mod numbers;
 mod page;
 
-pub use numbers::{inch_over, is_resolution, less, most};
+pub use numbers::{inch_over, is_resolution};
 pub use page::{
-    allowed, first_line_at, in_height, in_width, into_height, into_width, measure_of, width,
+    allowed, first_line_at, in_height, in_width, into_height, into_width, measure_of, page_of,
+    width,
 };

@@ -1,27 +1,16 @@
 // Paper 01, "Measures": the page, and places brought into it.
-ghost use Rattle.std.specs.Prelude.{◌≡◌, ◌≤◌, ◌<◌, leb};
-ghost use Rattle.rules.specs.Measure.{Bounded, allowed, measure_of, LW, LH, into_width, into_height};
+ghost use Rattle.std.specs.Prelude.{◌≡◌, cond, Some, None, ◌≤◌, ◌<◌, leb};
+ghost use Rattle.rules.specs.Measure.{allowed, measure_of, LW, LH, into_width, into_height};
 ghost use Rattle.rules.specs.States.{first_line_at};
 
-use rules::{Layout, Measure};
+use rules::{Layout, Measure, Page};
 
 // Whether a page may have this width and height, in dots.
+#[tactic(auto, unfolding(rules::specs::Measure::allowed))]
 pub fn allowed(w: usize, h: usize) -> bool
     ensures { result ≡ allowed w h }
 {
-    if w % 8 != 0 {
-        return false;
-    }
-    if w < 8 {
-        return false;
-    }
-    if 4800 < w {
-        return false;
-    }
-    if h < 1 {
-        return false;
-    }
-    h <= 6800
+    w % 8 == 0 && 8 <= w && w <= 4800 && 1 <= h && h <= 6800
 }
 
 // The measure of a page of this width and height, in dots.
@@ -34,50 +23,56 @@ pub fn measure_of(w: usize, h: usize) -> Measure
     }
 }
 
+// The page of this width and height, in dots, where that is allowed.
+#[tactic(auto, unfolding(rules::specs::Measure::allowed))]
+pub fn page_of(w: usize, h: usize) -> Option<Page>
+    ensures { result ≡ cond (allowed w h) (Some (measure_of w h)) None }
+{
+    if allowed(w, h) {
+        Some(Page::new(measure_of(w, h)))
+    } else {
+        None
+    }
+}
+
 // LW, the page's width in units.
-pub fn width(g: Measure) -> u32
-    requires { Bounded g }
+pub fn width(g: Page) -> u32
     ensures { (result ≡ LW g) × (result ≤ 115200) }
 {
-    (24 * (8 * g.wide)) as u32
+    (24 * (8 * g.wide())) as u32
 }
 
 // LH, the page's height in units.
-pub fn height(g: Measure) -> u32
-    requires { Bounded g }
+pub fn height(g: Page) -> u32
     ensures { (result ≡ LH g) × (result ≤ 163200) }
 {
-    (24 * g.high) as u32
+    (24 * g.high()) as u32
 }
 
 // Whether a place lies in the page's width.
-pub fn in_width(g: Measure, n: u64) -> bool
-    requires { Bounded g }
+pub fn in_width(g: Page, n: u64) -> bool
     ensures { result ≡ leb n (LW g) }
 {
     n <= width(g) as u64
 }
 
 // Whether a place lies in the page's height.
-pub fn in_height(g: Measure, n: u64) -> bool
-    requires { Bounded g }
+pub fn in_height(g: Page, n: u64) -> bool
     ensures { result ≡ leb n (LH g) }
 {
     n <= height(g) as u64
 }
 
 // A place across the page, brought into its width.
-pub fn into_width(g: Measure, n: u64) -> u32
-    requires { Bounded g }
+pub fn into_width(g: Page, n: u64) -> u32
     ensures { result ≡ into_width g n }
 {
     let widest = width(g);
-    if n < widest as u64 { n as u32 } else { widest }
+    n.min(u64::from(widest)) as u32
 }
 
 // A place down the page, brought into its height.
-pub fn into_height(g: Measure, n: u64) -> u32
-    requires { Bounded g }
+pub fn into_height(g: Page, n: u64) -> u32
     ensures { result ≡ into_height g n }
 {
     let highest = height(g);

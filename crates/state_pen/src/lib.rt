@@ -16,17 +16,14 @@ pub struct Pen {
     pub depth: usize,
 }
 
-// The pen of a core.
+// The pen of a core. A function and no `From`, since it leaves the stack and the seed row behind.
 pub fn pen_of(c: Core) -> Pen
     ensures { result ≡ pen_of c }
 {
-    let at = c.at;
-    let layout = c.layout;
-    let raster = c.raster;
     Pen {
-        at,
-        layout,
-        raster,
+        at: c.at,
+        layout: c.layout,
+        raster: c.raster,
         used: c.used,
         depth: c.depth,
     }
@@ -36,13 +33,10 @@ pub fn pen_of(c: Core) -> Pen
 pub fn core_of(p: Pen, stack: [Spot; 20], seed: [u8; 600]) -> Core
     ensures { result ≡ core_of p stack seed }
 {
-    let at = p.at;
-    let layout = p.layout;
-    let raster = p.raster;
     Core {
-        at,
-        layout,
-        raster,
+        at: p.at,
+        layout: p.layout,
+        raster: p.raster,
         used: p.used,
         depth: p.depth,
         stack,

@@ -1,2 +1,1 @@
--- The laws of this crate.
-pub mod Puts
+pub mod Places

@@ -3,24 +3,18 @@
 // longer. The room is that of the longest that is said.
 #![tactic(auto)]
 
-use given::Given;
+use std::io;
 
-// What a text holds, or the line of its refusal; whether it was written.
-fn write_unparked(out: &impl Print, s: &[u8]) -> bool {
+// What a text holds, or the line of its refusal.
+fn write_unparked(out: &impl Print, text: &[u8]) -> io::Result<()> {
     let mut room = [0u8; 1979];
-    let said = unpark_say::say_unparked(s, &mut room);
-    let end = said.end;
-    out.write_all(&room[..end]).is_ok()
+    let said = unpark_say::say_unparked(text, &mut room);
+    out.write_all(&room[..said.end])
 }
 
 fn main(rt: HostRuntime) {
-    let err = rt.stderr();
     let mut input = given::longest_input();
-    let Given::Job(n) = given::read_job(&mut rt.stdin(), &mut input) else {
-        let _ = err.write_all(b"UNREAD\n");
-        return;
-    };
-    if !write_unparked(&rt.stdout(), &input[..n]) {
-        let _ = err.write_all(b"UNWRITTEN\n");
-    }
+    given::answer(&mut rt.stdin(), &rt.stderr(), &mut input, |text| {
+        write_unparked(&rt.stdout(), text)
+    });
 }

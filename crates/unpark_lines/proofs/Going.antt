@@ -1,28 +1,29 @@
 -- A list read piece by piece into an array. Assumes nothing.
-use mathlib.Core.Path.{◌≡◌, refl, sym, ap, ◌∙◌}
-use mathlib.Core.Bool.{true}
-use mathlib.Core.List.{List, [], ◌∷◌, ◌++◌, append_assoc, append-nil}
-use Prim.Native.Nat.{ℕ, suc, ◌+◌, ◌-◌, ◌≤◌, ◌<◌}
-use native.Mathlib.Omega.{arith}
-use lib.ListN.{length, drop, set, length-append, length-set}
-use lib.Seq.{sets}
-use Rattle.rules.specs.Texts.{Found, wrong, found, then, many}
-use Rattle.unpark_lines.specs.declared.Place.{Place}
-use Rattle.unpark_lines.specs.declared.Place.TheVariants.{At}
-use Rattle.unpark_lines.specs.Answers.{place_heard, passed, values_of, Blank, Given}
-use Rattle.unpark_lines.proofs.Stores.{sets_last}
+use Rattle.std.proofs.Common.{◌≡◌, ℕ, ◌+◌, ◌-◌, ◌<◌, ◌≤◌, Bool, true, false, cond, suc, List, [], ◌∷◌, ◌++◌, length, get_or, drop, set, refl, sym, ap, ◌∙◌, append_assoc, length-append, length-set, arith}
+use mathlib.Core.List.{append-nil}
+use native.Mathlib.Nat.{add-zero, zero-add}
+use Rattle.std.proofs.Common.{add-one}
+use lib.ListN.{drop_of_length-le}
+use lib.Seq.{sets, sets-eq, set_out}
+use lib.Seq.{drop-cons}
+use Rattle.rules.specs.Texts.{Found, wrong, found, then, many, expect, field, fitting, numbers}
+use Rattle.unpark_lines.specs.Answers.{stored, kind_field}
+
+-- what stands at i, and what follows
+cut_of : {A : Type 0} (s : List A) (i : ℕ) (d : A) → i < length s → drop i s ≡ get_or s i d ∷ drop (i + 1) s
+cut_of s i d h = rw (add-one, drop-cons s i d) refl
 
 -- ---- one reader after another
 
 -- what is found is handed on
-pub then_found : {A B : Type 0} (x : Found A) (a : A) (t : List ℕ) (k : A → List ℕ → Found B) → x ≡ found a t → then x k ≡ k a t
+pub then_found : {A B : Type 0} (x : Found A) (a : A) (t : List ℕ) (k : A → List ℕ → Found B) → found a t ≡ x → then x k ≡ k a t
 unfolding then
-then_found x a t k e = rw e
+then_found x a t k e = rw (← e) refl
 
 -- what is wrong stays so
-pub then_wrong : {A B : Type 0} (x : Found A) (k : A → List ℕ → Found B) → x ≡ wrong → then x k ≡ wrong
+pub then_wrong : {A B : Type 0} (x : Found A) (k : A → List ℕ → Found B) → wrong ≡ x → then x k ≡ wrong
 unfolding then
-then_wrong x k e = rw e
+then_wrong x k e = rw (← e) refl
 
 -- what is found as it stands
 then_same : {A : Type 0} (x : Found (List A)) → x ≡ then x (λ l t. found l t)
@@ -36,30 +37,12 @@ unfolding then
 then_snoc wrong done a = refl
 then_snoc (found l t) done a = ap (λ q. found q t) (sym (append_assoc done (a ∷ []) l))
 
--- ---- the answer
-
-module _ {A : Type 0} (s : List ℕ) (want : Found (List A)) (blank : List A) where
-  -- nothing of the form
-  pub given_blank : (place : Place) (values : List A) → Blank blank place values → want ≡ wrong → Given s want blank place values
-  unfolding place_heard passed values_of
-  given_blank place values b e = rw (b.nowhere, b.empty, e) (record { is = refl; held = refl })
-
-  -- all of it
-  pub given_found : (p : ℕ) (l values : List A) → want ≡ found l (drop p s) → values ≡ sets blank 0 l → Given s want blank (At p) values
-  unfolding place_heard passed values_of
-  given_found p l values e h = rw e (record { is = refl; held = h })
-
--- what was found, told by the place behind it
-pub told_found : {A : Type 0} (want : Found (List A)) (t : List ℕ) → found true t ≡ passed want → want ≡ found (values_of want) t
-unfolding passed values_of
-told_found wrong t e = cc
-told_found (found l q) t e = cc
-
--- nothing was
-pub told_wrong : {A : Type 0} (want : Found (List A)) → wrong ≡ passed want → want ≡ wrong
-unfolding passed
-told_wrong wrong e = refl
-told_wrong (found l q) e = cc
+-- one more behind what is stored
+sets_last : {A : Type 0} (d : List A) (i : ℕ) (l : List A) (a : A) → set (sets d i l) (i + length l) a ≡ sets d i (l ++ (a ∷ []))
+sets_last d i [] a = rw add-zero refl
+sets_last d i (y ∷ l) a =
+    let e : i + suc (length l) ≡ suc i + length l = omega arith in
+    rw e (sets_last (set d i y) (suc i) l a)
 
 -- ---- between the pieces: those that are done are stored, and with those that are left they are all
 pub record Going {A : Type 0} (want rest : Found (List A)) (blank held : List A) (i : ℕ) : Type 0 where
@@ -75,28 +58,37 @@ going_start want blank = record { done = []; count = refl; kept = refl; stored =
 
 module _ {A : Type 0} {want rest : Found (List A)} {blank held : List A} {i : ℕ} (g : Going want rest blank held i) where
   -- one more is done
-  pub going_step : (rest' : Found (List A)) (held' : List A) (a : A) → rest ≡ then rest' (λ l t. found (a ∷ l) t) → held' ≡ set held i a → Going want rest' blank held' (i + 1)
-  going_step rest' held' a e h =
+  pub going_step : (rest' : Found (List A)) (a : A) → rest ≡ then rest' (λ l t. found (a ∷ l) t) → Going want rest' blank (set held i a) (i + 1)
+  going_step rest' a e =
       let c = g.count in
       let z : 0 + length g.done ≡ length g.done = omega arith in
       record {
         done = g.done ++ (a ∷ []);
         count = simp length-append (omega arith);
-        kept = ap length h ∙ length-set held i a ∙ g.kept;
-        stored = h ∙ rw (← c, ← z, g.stored) (sets_last blank 0 g.done a);
+        kept = length-set held i a ∙ g.kept;
+        stored = rw (← c, ← z, g.stored) (sets_last blank 0 g.done a);
         goes = g.goes ∙ ap (λ x. then x (λ l t. found (g.done ++ l) t)) e ∙ then_snoc rest' g.done a;
       }
 
   -- the next is wrong
-  pub going_wrong : rest ≡ wrong → want ≡ wrong
-  going_wrong e = g.goes ∙ then_wrong rest (λ l t. found (g.done ++ l) t) e
+  pub going_wrong : wrong ≡ rest → wrong ≡ want
+  going_wrong e = sym (g.goes ∙ then_wrong rest (λ l t. found (g.done ++ l) t) e)
 
   -- none is left
-  pub going_stop : (s : List ℕ) (p : ℕ) → rest ≡ found [] (drop p s) → Given s want blank (At p) held
-  going_stop s p e =
-      given_found s want blank p g.done held
-      (g.goes ∙ then_found rest [] (drop p s) (λ l t. found (g.done ++ l) t) e ∙ ap (λ l. found l (drop p s)) (append-nil g.done))
-      g.stored
+  pub going_stop : (t : List ℕ) → found [] t ≡ rest → found held t ≡ stored blank want
+  going_stop t e =
+      let w : want ≡ found g.done t = g.goes ∙ then_found rest [] t (λ l t. found (g.done ++ l) t) e ∙ ap (λ l. found l t) (append-nil g.done) in
+      rw w (ap (λ l. found l t) g.stored)
+
+  -- none is left, and the array is full
+  pub going_full : (t : List ℕ) → length blank ≡ i → found [] t ≡ rest → found held t ≡ want
+  going_full t h e =
+      let c = g.count in
+      let w : want ≡ found g.done t = g.goes ∙ then_found rest [] t (λ l t. found (g.done ++ l) t) e ∙ ap (λ l. found l t) (append-nil g.done) in
+      let f = sets-eq g.done blank 0 (rw (zero-add (length g.done)) (omega arith)) in
+      let n : drop (length g.done) blank ≡ [] = drop_of_length-le blank (omega arith) in
+      let k : sets blank 0 g.done ≡ g.done = rw zero-add at f ∙ ap (λ l. g.done ++ l) n ∙ append-nil g.done in
+      rw w (ap (λ l. found l t) (g.stored ∙ k))
 
 -- ---- n readers of one kind
 
@@ -115,23 +107,75 @@ module _ {A : Type 0} (f : List ℕ → Found A) where
   pub many_start : (n : ℕ) (s : List ℕ) (blank : List A) → Going (many f n s) (many f (n - 0) s) blank blank 0
   many_start n s blank = let e : n - 0 ≡ n = omega arith in rw e (going_start (many f n s) blank)
 
-module _ {A : Type 0} (f : List ℕ → Found A) (s : List ℕ) (n : ℕ) {want : Found (List A)} {blank held : List A} (i p : ℕ) (g : Going want (many f (n - i) (drop p s)) blank held i) where
-  -- the next and those behind it
-  many_left : i < n → many f (n - i) (drop p s) ≡ then (f (drop p s)) (λ a r. then (many f (n - (i + 1)) r) (λ l q. found (a ∷ l) q))
-  many_left h = let e : n - i ≡ suc (n - (i + 1)) = omega arith in rw e (many_suc f (n - (i + 1)) (drop p s))
+  module _ {want : Found (List A)} {blank held : List A} (n i : ℕ) (s : List ℕ) (g : Going want (many f (n - i) s) blank held i) where
+    -- the next and those behind it
+    many_left : i < n → many f (n - i) s ≡ then (f s) (λ a r. then (many f (n - (i + 1)) r) (λ l q. found (a ∷ l) q))
+    many_left h = let e : n - i ≡ suc (n - (i + 1)) = omega arith in rw e (many_suc (n - (i + 1)) s)
 
-  -- one more
-  pub many_again : i < n → (a : A) (next : ℕ) (held' : List A) → found a (drop next s) ≡ f (drop p s) → held' ≡ set held i a → Going want (many f (n - (i + 1)) (drop next s)) blank held' (i + 1)
-  many_again h a next held' q o =
-      going_step g (many f (n - (i + 1)) (drop next s)) held' a
-      (many_left h ∙ then_found (f (drop p s)) a (drop next s) (λ a r. then (many f (n - (i + 1)) r) (λ l q. found (a ∷ l) q)) (sym q)) o
+    -- one more
+    pub many_again : i < n → (a : A) (t : List ℕ) → found a t ≡ f s → Going want (many f (n - (i + 1)) t) blank (set held i a) (i + 1)
+    many_again h a t q =
+        going_step g (many f (n - (i + 1)) t) a
+        (many_left h ∙ then_found (f s) a t (λ a r. then (many f (n - (i + 1)) r) (λ l q. found (a ∷ l) q)) q)
 
-  -- one that is wrong
-  pub many_wrong : i < n → (place : Place) (values : List A) → wrong ≡ f (drop p s) → Blank blank place values → Given s want blank place values
-  many_wrong h place values q b =
-      given_blank s want blank place values b
-      (going_wrong g (many_left h ∙ then_wrong (f (drop p s)) (λ a r. then (many f (n - (i + 1)) r) (λ l q. found (a ∷ l) q)) (sym q)))
+    -- one more, which has no place
+    pub many_past : i < n → (a : A) (t : List ℕ) → found a t ≡ f s → length blank ≤ i → Going want (many f (n - (i + 1)) t) blank held (i + 1)
+    many_past h a t q l = let k = g.kept in rw (set_out held i a (omega arith)) at (many_again h a t q)
 
-  -- all of them
-  pub many_end : n ≤ i → Given s want blank (At p) held
-  many_end h = let e : n - i ≡ 0 = omega arith in going_stop g s p (rw e (many_zero f (drop p s)))
+    -- one that is wrong
+    pub many_wrong : i < n → wrong ≡ f s → wrong ≡ want
+    many_wrong h q = going_wrong g (sym (many_left h ∙ then_wrong (f s) (λ a r. then (many f (n - (i + 1)) r) (λ l q. found (a ∷ l) q)) q))
+
+    -- all of them
+    pub many_end : n ≤ i → found held s ≡ stored blank want
+    many_end h = let e : n - i ≡ 0 = omega arith in going_stop g s (rw e (sym (many_zero s)))
+
+-- ---- the fields of a line
+
+-- a field that must fit, and what follows
+fit_then : {B : Type 0} (x : Found ℕ) (fits : ℕ → Bool) (k : ℕ → List ℕ → Found B)
+    → then x (λ n r. cond (fits n) (k n r) wrong) ≡ then (then x (λ n r. cond (fits n) (found n r) wrong)) k
+unfolding then
+fit_then wrong fits k = refl
+fit_then (found n r) fits k = go (fits n)
+  where
+    go : (t : Bool) → cond t (k n r) wrong ≡ then (cond t (found n r) wrong) k
+    go true = refl
+    go false = refl
+
+-- the first field and those behind it
+numbers_cons : (flag : Bool) (l : List Bool) (s : List ℕ) → numbers (flag ∷ l) s ≡ then (kind_field flag s) (λ n r. then (numbers l r) (λ ns q. found (n ∷ ns) q))
+unfolding numbers kind_field
+numbers_cons flag l s = fit_then (field s) (fitting flag) (λ n r. then (numbers l r) (λ ns q. found (n ∷ ns) q))
+
+-- behind the last there is LF
+numbers_nil : (s : List ℕ) → numbers [] s ≡ then (expect 10 s) (λ _ r. found [] r)
+unfolding numbers
+numbers_nil s = refl
+
+module _ {want : Found (List ℕ)} {blank held : List ℕ} (flags : List Bool) (i : ℕ) (s : List ℕ) (g : Going want (numbers (drop i flags) s) blank held i) where
+  -- the next field and those behind it
+  left : i < length flags → numbers (drop i flags) s ≡ then (kind_field (get_or flags i false) s) (λ n r. then (numbers (drop (i + 1) flags) r) (λ ns q. found (n ∷ ns) q))
+  left h = ap (λ l. numbers l s) (cut_of flags i false h) ∙ numbers_cons (get_or flags i false) (drop (i + 1) flags) s
+
+  -- one more field
+  pub numbers_again : i < length flags → (n : ℕ) (t : List ℕ) → found n t ≡ kind_field (get_or flags i false) s → Going want (numbers (drop (i + 1) flags) t) blank (set held i n) (i + 1)
+  numbers_again h n t q =
+      going_step g (numbers (drop (i + 1) flags) t) n
+      (left h ∙ then_found (kind_field (get_or flags i false) s) n t (λ n r. then (numbers (drop (i + 1) flags) r) (λ ns q. found (n ∷ ns) q)) q)
+
+  -- no field, or one that does not fit
+  pub numbers_wrong : i < length flags → wrong ≡ kind_field (get_or flags i false) s → wrong ≡ want
+  numbers_wrong h q = going_wrong g (sym (left h ∙ then_wrong (kind_field (get_or flags i false) s) (λ n r. then (numbers (drop (i + 1) flags) r) (λ ns q. found (n ∷ ns) q)) q))
+
+  -- no flag is left
+  last : length flags ≤ i → numbers (drop i flags) s ≡ then (expect 10 s) (λ _ r. found [] r)
+  last h = ap (λ l. numbers l s) (drop_of_length-le flags h) ∙ numbers_nil s
+
+  -- no LF
+  pub numbers_unended : length flags ≤ i → wrong ≡ expect 10 s → wrong ≡ want
+  numbers_unended h q = going_wrong g (sym (last h ∙ then_wrong (expect 10 s) (λ _ r. found [] r) q))
+
+  -- all fields and LF
+  pub numbers_end : length flags ≡ i → length blank ≡ i → (t : List ℕ) → found true t ≡ expect 10 s → found held t ≡ want
+  numbers_end h b t q = going_full g t b (sym (last (omega arith) ∙ then_found (expect 10 s) true t (λ _ r. found [] r) q))

@@ -1,65 +1,39 @@
--- A byte and a word read at a place of the bytes. Assumes nothing.
-use mathlib.Core.Path.{◌≡◌, refl, sym, ap, ◌∙◌}
-use mathlib.Core.Bool.{true}
-use mathlib.Core.List.{List, [], ◌∷◌}
-use Prim.Native.Nat.{ℕ, ◌+◌, ◌≤◌, ◌<◌}
-use lib.ListN.{length, drop, get_or, drop_of_length-le}
-use borrow.Author.Tests.{eq-eqb, ne_eqb}
-use Rattle.common.proofs.Places.{cut}
+-- A word at the front of the bytes. Assumes nothing.
+use Rattle.std.proofs.Common.{◌≡◌, ◌≢◌, ◌+◌, ℕ, Bool, true, false, List, [], ◌∷◌, ◌++◌, Option, Some, None, cond, eqb, length, take, drop, Bor, refl, ap, ◌∙◌, sym, subst}
+use borrow.Author.Tests.{eq-eqb, eqb-true}
+use Rattle.std.specs.Option.{MatchOption}
+use Rattle.std.specs.Cmp.Lexicographic.{pointwise}
+use Rattle.std.proofs.lemmas.Bool.Decides.{Decides-eqb}
+use Rattle.std.proofs.lemmas.Slice.Eq.{strip_prefix_is}
 use Rattle.rules.specs.Texts.{wrong, found, then, expect, expect_all}
-use Rattle.unpark_lines.specs.declared.Place.{Place}
-use Rattle.unpark_lines.specs.declared.Place.TheVariants.{At, Wrong}
-use Rattle.unpark_lines.specs.Answers.{place_heard}
 
--- ---- a byte
+-- the word stands there
+word_there : (w t : List ℕ) → expect_all w (w ++ t) ≡ found true t
+unfolding expect_all expect then
+word_there [] t = refl
+word_there (e ∷ w) t = rw (eq-eqb e e refl) (word_there w t)
 
-module _ (s : List ℕ) (at e : ℕ) where
-  -- it is there
-  pub byte_here : at < length s → get_or s at 0 ≡ e → place_heard s (At (at + 1)) ≡ expect e (drop at s)
-  unfolding place_heard expect
-  byte_here h q = sym (ap (expect e) (cut s at h) ∙ rw (eq-eqb (get_or s at 0) e q))
+-- another stands there
+word_absent : (w s : List ℕ) → ((t : List ℕ) → s ≢ w ++ t) → expect_all w s ≡ wrong
+unfolding expect_all expect then
+word_absent [] s h = absurd (h s refl)
+word_absent (e ∷ w) [] h = refl
+word_absent (e ∷ w) (b ∷ s) h = go (λ k. word_absent w s k) (eqb b e) refl
+  where
+    go : (((t : List ℕ) → s ≢ w ++ t) → expect_all w s ≡ wrong) → (t : Bool) → eqb b e ≡ t → then (cond t (found true s) wrong) (λ _ r. expect_all w r) ≡ wrong
+    go more true q = let z : b ≡ e = eqb-true b e q in more (λ t k. h t (λ i. z i ∷ k i))
+    go more false q = refl
 
-  -- another is there
-  pub byte_other : at < length s → (get_or s at 0 ≡ e → ⊥) → place_heard s Wrong ≡ expect e (drop at s)
-  unfolding place_heard expect
-  byte_other h q = sym (ap (expect e) (cut s at h) ∙ rw (ne_eqb (get_or s at 0) e q))
+module _ (s w : List ℕ) (r : Option (Bor (List ℕ)))
+    (m : MatchOption r (pointwise eqb (take (length w) s) w ≡ false) (λ x. (pointwise eqb (take (length w) s) w ≡ true) × (x.now ≡ drop (length w) s) × (length x.now + length w ≡ length s))) where
+  -- what is behind it is left
+  pub word_read : (x : Bor (List ℕ)) → r ≡ Some x → found true x.now ≡ expect_all w s
+  word_read x e =
+      let k : MatchOption (Some x) ((t : List ℕ) → s ≢ w ++ t) (λ x. s ≡ w ++ x.now) = subst (λ (o : Option (Bor (List ℕ))). MatchOption o ((t : List ℕ) → s ≢ w ++ t) (λ x. s ≡ w ++ x.now)) e (strip_prefix_is Decides-eqb s w r m) in
+      sym (ap (expect_all w) k ∙ word_there w x.now)
 
-  -- none is there
-  pub byte_end : length s ≤ at → place_heard s Wrong ≡ expect e (drop at s)
-  unfolding place_heard expect
-  byte_end h = sym (ap (expect e) (drop_of_length-le s h))
-
--- ---- a word
-
--- its first byte is there: the others are asked for behind it
-one_more : (e : ℕ) (w l t : List ℕ) → found true t ≡ expect e l → expect_all w t ≡ expect_all (e ∷ w) l
-unfolding expect_all then
-one_more e w l t q = rw (← q)
-
--- it is not
-no_more : (e : ℕ) (w l : List ℕ) → wrong ≡ expect e l → wrong ≡ expect_all (e ∷ w) l
-unfolding expect_all then
-no_more e w l q = rw (← q)
-
--- no byte is left to ask for
-none_more : (l : List ℕ) → found true l ≡ expect_all [] l
-unfolding expect_all
-none_more l = refl
-
-module _ (s : List ℕ) (at : ℕ) (word : List ℕ) (i p : ℕ) (inv : expect_all (drop i word) (drop p s) ≡ expect_all word (drop at s)) where
-  -- a byte more of it
-  pub word_again : (next : ℕ) (k : Place) → k ≡ At next → place_heard s k ≡ expect (get_or word i 0) (drop p s) → i < length word → expect_all (drop (i + 1) word) (drop next s) ≡ expect_all word (drop at s)
-  unfolding place_heard
-  word_again next k told q h =
-      one_more (get_or word i 0) (drop (i + 1) word) (drop p s) (drop next s) (sym (ap (place_heard s) told) ∙ q) ∙ ap (λ w. expect_all w (drop p s)) (sym (cut word i h)) ∙ inv
-
-  -- a byte that is not there
-  pub word_wrong : (k : Place) → k ≡ Wrong → place_heard s k ≡ expect (get_or word i 0) (drop p s) → i < length word → place_heard s Wrong ≡ expect_all word (drop at s)
-  unfolding place_heard
-  word_wrong k told q h =
-      no_more (get_or word i 0) (drop (i + 1) word) (drop p s) (sym (ap (place_heard s) told) ∙ q) ∙ ap (λ w. expect_all w (drop p s)) (sym (cut word i h)) ∙ inv
-
-  -- all of it
-  pub word_end : length word ≤ i → place_heard s (At p) ≡ expect_all word (drop at s)
-  unfolding place_heard
-  word_end h = none_more (drop p s) ∙ ap (λ w. expect_all w (drop p s)) (sym (drop_of_length-le word h)) ∙ inv
+  -- or it is not there
+  pub no_word : r ≡ None → wrong ≡ expect_all w s
+  no_word e =
+      let k : MatchOption {T = Bor (List ℕ)} None ((t : List ℕ) → s ≢ w ++ t) (λ x. s ≡ w ++ x.now) = subst (λ (o : Option (Bor (List ℕ))). MatchOption o ((t : List ℕ) → s ≢ w ++ t) (λ x. s ≡ w ++ x.now)) e (strip_prefix_is Decides-eqb s w r m) in
+      sym (word_absent w s k)

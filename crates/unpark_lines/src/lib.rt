@@ -1,397 +1,237 @@
-// The lines of a parked text, read into arrays from any bytes and any place: a place behind the end is the end.
-// An answer is the place behind what was read, or Wrong where the bytes are not of the form; then every array is as blank as it began.
-// A number, a position or a byte that has no place in its array is read and not stored.
+// The lines of a parked text, read from any bytes.
+// An answer is what stands at the front of the bytes that are left, or None where they are not of the form: then the whole text is not, and no caller reads on.
 #![tactic(auto)]
 
-ghost use Rattle.std.specs.Prelude.{◌≡◌, cond, ◌+◌, ◌*◌, ◌-◌, ◌≤◌, ◌<◌, eqb, length, drop, set, replicate};
+ghost use Rattle.std.specs.Prelude.{◌≡◌, ◌-◌, ◌*◌, ◌≤◌, ◌<◌, List, ℕ, replicate, if◌then◌else◌, Some, None, IfSome};
+ghost use Rattle.common.specs.Lists.{is_nil};
 ghost use Rattle.rules.specs.Measure.{origin};
-ghost use Rattle.rules.specs.Texts.{up_to, number, field, expect, expect_all, numbers, line_of, is_hex, unhex, pair, many, position, row};
-ghost use Rattle.unpark_lines.specs.Answers.{heard, place_heard, byte_heard, spot_heard, low, low_position, kind_field, kinds_of, Blank, Given, Stacked};
+ghost use Rattle.rules.specs.Texts.{Found, found, up_to, number, field, expect, expect_all, numbers, line_of, is_hex, unhex, pair, many, position, row};
+ghost use Rattle.unpark_lines.specs.Answers.{heard, passed, stored, low, low_position, kind_field};
 
-use common::least;
-use number_write::put_byte;
 use rules::Spot;
+use std::marker::Model;
 
-// A number and the place behind it; or nothing of the form.
+// The bytes of a text that are left to read.
 #[derive(Drop)]
-enum Field {
-    At(u64, usize),
-    Wrong,
+pub struct Reader<'a> {
+    rest: &'a [u8],
 }
 
-// The place behind what was read; or nothing of the form.
-#[derive(Drop)]
-pub enum Place {
-    At(usize),
-    Wrong,
+impl<'a> Model for Reader<'a> {
+    ghost Value = { List ℕ };
+
+    ghost view = { λ r. r.rest.now };
 }
 
-// ---- decimals
+// What stands in a text as often as a number before it says.
+pub trait Repeated: Copy {
+    ghost form: { List ℕ → Found Self };
 
-// A number with one more digit.
-fn one_more(n: u64, b: u8) -> u64
-    requires { (48 ≤ b) × (b < 58) × (n < 1000000000000000000) }
-    ensures { result ≡ n * 10 + (b - 48) }
-{
-    n * 10 + (b - 48) as u64
-}
-
-// At most so many more digits, behind the first: nineteen in all fit.
-fn more_digits(s: &[u8], at: usize, first: u64, most: usize) -> Field
-    requires { (first < 10) × (most ≤ 18) }
-    ensures { heard s.now result ≡ up_to most first (drop at s.now) }
-{
-    if s.len() <= at {
-        return Field::At(first, at);
-    }
-    let end = at + least(most, s.len() - at);
-    let mut n = first;
-    let mut i = at;
-    while i < end {
-        let b = s[i];
-        match b {
-            b'0'..=b'9' => {
-                n = one_more(n, b);
-                i += 1;
-            }
-            _ => break,
-        }
-    }
-    Field::At(n, i)
-}
-
-// The decimal at a place: 1 to 10 digits, no leading zeros.
-fn read_number(s: &[u8], at: usize) -> Field
-    ensures { heard s.now result ≡ number (drop at s.now) }
-{
-    if at < s.len() {
-        let b = s[at];
-        match b {
-            b'0' => return more_digits(s, at + 1, 0, 0),
-            b'1'..=b'9' => return more_digits(s, at + 1, (b - 48) as u64, 9),
-            _ => return Field::Wrong,
-        }
-    }
-    Field::Wrong
-}
-
-// A tab and the decimal behind it.
-fn read_field(s: &[u8], at: usize) -> Field
-    ensures { heard s.now result ≡ field (drop at s.now) }
-{
-    if at < s.len() {
-        let b = s[at];
-        if b == b'\t' {
-            return read_number(s, at + 1);
-        }
-    }
-    Field::Wrong
-}
-
-// ---- words
-
-// The byte e.
-fn read_byte(s: &[u8], at: usize, e: u8) -> Place
-    ensures { place_heard s.now result ≡ expect e (drop at s.now) }
-{
-    if at < s.len() {
-        let b = s[at];
-        if b == e {
-            return Place::At(at + 1);
-        }
-    }
-    Place::Wrong
-}
-
-// The LF that ends a line.
-fn read_line_end(s: &[u8], at: usize) -> Place
-    ensures { place_heard s.now result ≡ expect 10 (drop at s.now) }
-{
-    read_byte(s, at, b'\n')
-}
-
-// The bytes of a word.
-fn read_word(s: &[u8], at: usize, word: &[u8]) -> Place
-    ensures { place_heard s.now result ≡ expect_all word.now (drop at s.now) }
-{
-    let mut i: usize = 0;
-    let mut p = at;
-    while i < word.len() {
-        let k = read_byte(s, p, word[i]);
-        let Place::At(next) = k else {
-            return Place::Wrong;
-        };
-        i += 1;
-        p = next;
-    }
-    Place::At(p)
-}
-
-// ---- a line of numbers
-
-// The field at a place; a flag, told by the kind 1, is 0 or 1.
-fn read_kind(s: &[u8], at: usize, kind: u8) -> Field
-    ensures { heard s.now result ≡ kind_field (eqb kind 1) (drop at s.now) }
-{
-    let f = read_field(s, at);
-    let Field::At(n, next) = f else {
-        return Field::Wrong;
-    };
-    if kind == 1 {
-        if 1 < n {
-            return Field::Wrong;
-        }
-    }
-    Field::At(n, next)
-}
-
-// The place behind a line, and its numbers.
-#[derive(Drop)]
-pub struct LineRead {
-    pub place: Place,
-    pub numbers: [u64; 16],
-}
-
-// No line.
-fn no_line() -> LineRead
-    ensures { Blank (replicate 16 0) result.place result.numbers }
-{
-    LineRead {
-        place: Place::Wrong,
-        numbers: [0u64; 16],
-    }
-}
-
-// A number into the room at i, where there is a place for it.
-fn put_number(n: u64, room: &mut [u64], i: usize)
-    ensures { room.new ≡ set room.old i n }
-{
-    if i < room.len() {
-        room[i] = n;
-    }
-}
-
-// A field for each of the kinds, and LF.
-fn read_numbers(s: &[u8], at: usize, kinds: &[u8]) -> LineRead
-    ensures { Given s.now (numbers (kinds_of kinds.now) (drop at s.now)) (replicate 16 0) result.place result.numbers }
-{
-    let mut held = [0u64; 16];
-    let mut i: usize = 0;
-    let mut p = at;
-    while i < kinds.len() {
-        let f = read_kind(s, p, kinds[i]);
-        let Field::At(n, next) = f else {
-            return no_line();
-        };
-        put_number(n, &mut held, i);
-        i += 1;
-        p = next;
-    }
-    let end = read_line_end(s, p);
-    let Place::At(next) = end else {
-        return no_line();
-    };
-    LineRead {
-        place: Place::At(next),
-        numbers: held,
-    }
-}
-
-// The line of a word and a number for each of the kinds, LF behind it.
-pub fn read_line(s: &[u8], at: usize, word: &[u8], kinds: &[u8]) -> LineRead
-    ensures { Given s.now (line_of word.now (kinds_of kinds.now) (drop at s.now)) (replicate 16 0) result.place result.numbers }
-{
-    let w = read_word(s, at, word);
-    let Place::At(start) = w else {
-        return no_line();
-    };
-    read_numbers(s, start, kinds)
-}
-
-// ---- positions
-
-// A position and the place behind its line; or no such line.
-#[derive(Drop)]
-enum Position {
-    At(Spot, usize),
-    Wrong,
+    // One of them.
+    fn read(reader: &mut Reader) -> Option<Self>
+        ensures { heard result reader.new ≡ form reader.old };
 }
 
 // A number as a state keeps it: one beyond 32 bits, which no sound state has, is lowered.
 pub fn lowered(n: u64) -> u32
     ensures { result ≡ low n }
 {
-    if n < 4294967295 {
-        return n as u32;
-    }
-    4294967295
+    u32::try_from(n).unwrap_or(u32::MAX)
 }
 
-// The line of a position: the word POS, x and y, LF.
-fn read_position(s: &[u8], at: usize) -> Position
-    ensures { spot_heard s.now result ≡ low_position (drop at s.now) }
-{
-    let line = read_line(s, at, b"POS", &[0, 0]);
-    let k = line.place;
-    let Place::At(next) = k else {
-        return Position::Wrong;
-    };
-    let x = lowered(line.numbers[0]);
-    let y = lowered(line.numbers[1]);
-    Position::At(Spot { x, y }, next)
-}
-
-// The place behind the lines of positions, and the positions.
-#[derive(Drop)]
-pub struct SpotsRead {
-    pub place: Place,
-    pub stack: [Spot; 20],
-}
-
-// No positions.
-fn no_spots() -> SpotsRead
-    ensures { Blank (replicate 20 origin) result.place result.stack }
-{
-    SpotsRead {
-        place: Place::Wrong,
-        stack: [Spot { x: 0, y: 0 }; 20],
-    }
-}
-
-// The stack with a position at i, where there is a place for it.
-fn with_spot(stack: [Spot; 20], i: usize, p: Spot) -> [Spot; 20]
-    requires { length stack ≡ 20 }
-    ensures { result ≡ set stack i p }
-{
-    let mut next = stack;
-    if i < 20 {
-        next[i] = p;
-    }
-    next
-}
-
-// The lines of n positions.
-pub fn read_positions(s: &[u8], at: usize, n: usize) -> SpotsRead
-    ensures { Stacked s.now (many position n (drop at s.now)) result.place result.stack }
-{
-    let mut held = [Spot { x: 0, y: 0 }; 20];
-    let mut i: usize = 0;
-    let mut p = at;
-    while i < n {
-        let k = read_position(s, p);
-        let Position::At(spot, next) = k else {
-            return no_spots();
-        };
-        let more = with_spot(held, i, spot);
-        held = more;
-        i += 1;
-        p = next;
-    }
-    SpotsRead {
-        place: Place::At(p),
-        stack: held,
-    }
-}
-
-// ---- pairs of hexadecimal digits
-
-// A byte and the place behind its two digits; or no such digits.
-#[derive(Drop)]
-enum Pair {
-    At(u8, usize),
-    Wrong,
-}
-
-// What a capital hexadecimal digit stands for; 16 for any other byte.
-fn nibble(b: u8) -> u8
-    ensures { result ≡ cond (is_hex b) (unhex b) 16 }
+// What a capital hexadecimal digit stands for.
+#[tactic(auto, unfolding(rules::specs::Texts::is_hex, rules::specs::Texts::unhex))]
+fn nibble(b: u8) -> Option<u8>
+    ensures value { result ≡ (if is_hex b then Some (unhex b) else None) }
+    ensures small { IfSome result (λ n. n < 16) }
 {
     match b {
-        b'0'..=b'9' => b - 48,
-        b'A'..=b'F' => b - 55,
-        _ => 16,
+        b'0'..=b'9' => Some(b - b'0'),
+        b'A'..=b'F' => Some(b - b'A' + 10),
+        _ => None,
     }
 }
 
-// The pair of digits at a place.
-fn read_pair(s: &[u8], at: usize) -> Pair
-    ensures { byte_heard s.now result ≡ pair (drop at s.now) }
-{
-    if s.len() <= at {
-        return Pair::Wrong;
+impl<'a> Reader<'a> {
+    // All of a text.
+    pub fn new(text: &'a [u8]) -> Reader<'a>
+        ensures { result ≡ text.now }
+    {
+        Reader { rest: text }
     }
-    if s.len() - at < 2 {
-        return Pair::Wrong;
+
+    // Whether nothing is left.
+    pub fn is_over(&self) -> bool
+        ensures { result ≡ is_nil self.now }
+    {
+        self.rest.is_empty()
     }
-    let high = nibble(s[at]);
-    let low = nibble(s[at + 1]);
-    if high < 16 {
-        if low < 16 {
-            return Pair::At(high * 16 + low, at + 2);
+
+    // The bytes of a word, which must stand there.
+    fn word(&mut self, word: &[u8]) -> Option<()>
+        ensures { passed result self.new ≡ expect_all word.now self.old }
+    {
+        self.rest = self.rest.strip_prefix(word)?;
+        Some(())
+    }
+
+    // One byte, which must be e.
+    #[tactic(auto, unfolding(rules::specs::Texts::expect))]
+    fn byte(&mut self, e: u8) -> Option<()>
+        ensures { passed result self.new ≡ expect e self.old }
+    {
+        let (first, rest) = self.rest.split_first()?;
+        if *first != e {
+            return None;
+        }
+        self.rest = rest;
+        Some(())
+    }
+
+    // The LF that ends a line.
+    fn line_end(&mut self) -> Option<()>
+        ensures { passed result self.new ≡ expect 10 self.old }
+    {
+        self.byte(b'\n')
+    }
+
+    // ---- decimals
+
+    // At most so many more digits, behind the first: nineteen in all fit.
+    fn more_digits(&mut self, first: u64, most: usize) -> u64
+        requires { (first < 10) × (most ≤ 18) }
+        ensures { found result self.new ≡ up_to most first self.old }
+    {
+        let mut n = first;
+        for _ in 0..most {
+            let Some((digit, rest)) = self.rest.split_first() else {
+                break;
+            };
+            if !digit.is_ascii_digit() {
+                break;
+            }
+            n = n * 10 + u64::from(*digit - b'0');
+            self.rest = rest;
+        }
+        n
+    }
+
+    // A decimal: 1 to 10 digits, no leading zeros.
+    #[tactic(auto, unfolding(rules::specs::Texts::number))]
+    fn number(&mut self) -> Option<u64>
+        ensures { heard result self.new ≡ number self.old }
+    {
+        let (first, rest) = self.rest.split_first()?;
+        self.rest = rest;
+        match *first {
+            b'0' => Some(0),
+            b'1'..=b'9' => Some(self.more_digits(u64::from(*first - b'0'), 9)),
+            _ => None,
         }
     }
-    Pair::Wrong
-}
 
-// The place behind a row, and its bytes.
-#[derive(Drop)]
-pub struct RowRead {
-    pub place: Place,
-    pub bytes: [u8; 600],
-}
+    // A tab and the decimal behind it.
+    #[tactic(auto, unfolding(rules::specs::Texts::field, rules::specs::Texts::then))]
+    fn field(&mut self) -> Option<u64>
+        ensures { heard result self.new ≡ field self.old }
+    {
+        self.byte(b'\t')?;
+        self.number()
+    }
 
-// No row.
-fn no_row() -> RowRead
-    ensures { Blank (replicate 600 0) result.place result.bytes }
-{
-    RowRead {
-        place: Place::Wrong,
-        bytes: [0u8; 600],
+    // A field; a flag is 0 or 1.
+    #[tactic(auto, unfolding(crate::specs::Answers::kind_field, rules::specs::Texts::then))]
+    fn fitting(&mut self, flag: bool) -> Option<u64>
+        ensures { heard result self.new ≡ kind_field flag self.old }
+    {
+        let n = self.field()?;
+        if flag && 1 < n {
+            return None;
+        }
+        Some(n)
+    }
+
+    // ---- a line of numbers
+
+    // N fields, and LF. A field is a flag where `flags` says so.
+    fn numbers<const N: usize>(&mut self, flags: &[bool; N]) -> Option<[u64; N]>
+        ensures { heard result self.new ≡ numbers flags.now self.old }
+    {
+        let mut held = [0u64; N];
+        for i in 0..N {
+            held[i] = self.fitting(flags[i])?;
+        }
+        self.line_end()?;
+        Some(held)
+    }
+
+    // The line of a word and N numbers, LF behind it. A number is a flag where `flags` says so.
+    #[tactic(auto, unfolding(rules::specs::Texts::line_of, rules::specs::Texts::then))]
+    pub fn line<const N: usize>(&mut self, word: &[u8], flags: &[bool; N]) -> Option<[u64; N]>
+        ensures { heard result self.new ≡ line_of word.now flags.now self.old }
+    {
+        self.word(word)?;
+        self.numbers(flags)
+    }
+
+    // ---- lists
+
+    // n of a kind, in an array that was blank. One that has no place in it is read and not stored.
+    fn many<T: Repeated, const N: usize>(&mut self, n: usize, blank: T) -> Option<[T; N]>
+        ensures { heard result self.new ≡ stored (replicate N blank) (many T.form n self.old) }
+    {
+        let mut held = [blank; N];
+        for i in 0..n {
+            let one = T::read(self)?;
+            if i < N {
+                held[i] = one;
+            }
+        }
+        Some(held)
+    }
+
+    // The lines of n positions.
+    pub fn positions(&mut self, n: usize) -> Option<[Spot; 20]>
+        ensures { heard result self.new ≡ stored (replicate 20 origin) (many low_position n self.old) }
+    {
+        self.many(n, Spot { x: 0, y: 0 })
+    }
+
+    // The line of a row of n bytes: the word ROW and its tab, n pairs, LF.
+    #[tactic(auto, unfolding(rules::specs::Texts::row, rules::specs::Texts::then))]
+    pub fn row(&mut self, n: usize) -> Option<[u8; 600]>
+        ensures { heard result self.new ≡ stored (replicate 600 0) (row n self.old) }
+    {
+        self.word(b"ROW\t")?;
+        let bytes = self.many(n, 0u8)?;
+        self.line_end()?;
+        Some(bytes)
     }
 }
 
-// n pairs.
-fn read_pairs(s: &[u8], at: usize, n: usize) -> RowRead
-    ensures { Given s.now (many pair n (drop at s.now)) (replicate 600 0) result.place result.bytes }
-{
-    let mut held = [0u8; 600];
-    let mut i: usize = 0;
-    let mut p = at;
-    while i < n {
-        let k = read_pair(s, p);
-        let Pair::At(b, next) = k else {
-            return no_row();
+impl Repeated for Spot {
+    ghost form = { low_position };
+
+    // The line of a position: the word POS, x and y, LF.
+    #[tactic(auto, unfolding(crate::specs::Answers::low_position, rules::specs::Texts::position, rules::specs::Texts::then))]
+    fn read(reader: &mut Reader) -> Option<Spot> {
+        let [x, y] = reader.line(b"POS", &[false; 2])?;
+        let x = lowered(x);
+        let y = lowered(y);
+        Some(Spot { x, y })
+    }
+}
+
+impl Repeated for u8 {
+    ghost form = { pair };
+
+    // A byte of a row: a pair of digits.
+    #[tactic(auto, unfolding(rules::specs::Texts::pair))]
+    fn read(reader: &mut Reader) -> Option<u8> {
+        let [high, low, rest @ ..] = reader.rest else {
+            return None;
         };
-        put_byte(b, &mut held, i);
-        i += 1;
-        p = next;
-    }
-    RowRead {
-        place: Place::At(p),
-        bytes: held,
-    }
-}
-
-// The line of a row of n bytes: the word ROW and its tab, n pairs, LF.
-pub fn read_row(s: &[u8], at: usize, n: usize) -> RowRead
-    ensures { Given s.now (row n (drop at s.now)) (replicate 600 0) result.place result.bytes }
-{
-    let w = read_word(s, at, b"ROW\t");
-    let Place::At(start) = w else {
-        return no_row();
-    };
-    let pairs = read_pairs(s, start, n);
-    let k = pairs.place;
-    let Place::At(behind) = k else {
-        return no_row();
-    };
-    let end = read_line_end(s, behind);
-    let Place::At(next) = end else {
-        return no_row();
-    };
-    let bytes = pairs.bytes;
-    RowRead {
-        place: Place::At(next),
-        bytes,
+        reader.rest = rest;
+        Some(nibble(*high)? * 16 + nibble(*low)?)
     }
 }

@@ -1,4 +1,3 @@
-pub mod Parts
-pub mod Judging
-pub mod Holding
-pub mod Reading
+-- The laws of this crate.
+mod Holding
+mod Reading

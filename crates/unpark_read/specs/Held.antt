@@ -1,16 +1,15 @@
 -- A number of a text may have ten digits, more than its place in a state can hold. It is put there as the greatest that the place holds, which no sound
 -- state has: so what is not sound stays so, and what is sound stays as it is (proofs/Holding.antt).
-use Rattle.std.specs.Prelude.{ℕ, min, cond, List, [], ◌∷◌, get_or, replicate}
+use Rattle.std.specs.Prelude.{Option, Some, None, ℕ, min, cond, List, [], ◌∷◌, get_or, replicate}
 use Rattle.std.proofs.lemmas.List.Edits.{sets}
 use Rattle.rules.specs.declared.Spot.{Spot}
 use Rattle.rules.specs.declared.Layout.{Layout}
 use Rattle.rules.specs.declared.Raster.{Raster}
 use Rattle.rules.specs.declared.Core.{Core}
-use Rattle.rules.specs.declared.Refusal.TheVariants.{TextForm, TextState}
+use Rattle.rules.specs.declared.Refusal.TheVariants.{TextForm}
 use Rattle.rules.specs.declared.State.{State}
-use Rattle.rules.specs.declared.Unparked.{Unparked}
-use Rattle.rules.specs.declared.Verdict.{Verdict}
-use Rattle.rules.specs.declared.Verdict.TheVariants.{Carried, Refused}
+use Rattle.rules.specs.declared.Stored.{Stored}
+use Rattle.rules.specs.Given.{Unparked}
 use Rattle.rules.specs.States.{beside_of, state_of}
 use Rattle.rules.specs.Measure.{row_holds}
 use Rattle.rules.specs.Texts.{Found, wrong, found}
@@ -70,15 +69,7 @@ last_judged numbers stack wrong = read_refused TextForm
 last_judged numbers stack (found bytes []) = judged_text numbers stack (sets (replicate row_holds 0) 0 bytes)
 last_judged numbers stack (found bytes (b ∷ s)) = read_refused TextForm
 
--- what a text that says this page and this state comes to; one that is not of the form stays so
-abbrev pub judged_verdict : Verdict → ℕ → ℕ → State → Verdict
-judged_verdict Carried w h t = cond (parked_sound (parked_of w h t)) Carried (Refused TextState)
-judged_verdict (Refused why) w h t = Refused why
-
--- what a text that was read comes to when it is judged
-abbrev pub judged_by : Verdict → Parked → Unparked
-judged_by Carried j = judged_parked j
-judged_by (Refused why) j = read_refused why
-
-unfoldable pub judged_read : Unparked → Unparked
-judged_read u = judged_by u.verdict (parked_of u.wide u.high u.state)
+-- what a text that was read comes to when it is judged; one that is not of the form stays so
+unfoldable pub judged_read : Option Stored → Unparked
+judged_read (Some j) = judged_parked (parked_of j.wide j.high j.state)
+judged_read None = read_refused TextForm

@@ -8,8 +8,8 @@ use lib.ListN.{length, length-append, take}
 use borrow.Author.Tests.{ltb-true}
 use Rattle.rules.specs.declared.Refusal.{Refusal}
 use Rattle.rules.specs.declared.Refusal.TheVariants.{StreamLength}
-use Rattle.rules.specs.declared.Verdict.{Verdict}
-use Rattle.rules.specs.declared.Verdict.TheVariants.{Carried, Refused}
+use Rattle.rules.specs.Given.{Verdict}
+use Rattle.rules.specs.Given.{Carried, Refused}
 use Rattle.rules.specs.Measure.{longest_stream, is_too_long}
 use Rattle.rules.specs.Texts.{put_many, put_position, put_row}
 use Rattle.rules.specs.Forms.{Parked, JOB}

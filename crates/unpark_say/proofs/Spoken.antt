@@ -1,38 +1,38 @@
 -- What is said of a text stands in the room. Assumes nothing.
-use mathlib.Core.Path.{◌≡◌, refl}
-use mathlib.Core.Bool.{false}
-use mathlib.Core.List.{List}
-use Prim.Native.Nat.{ℕ, ◌≤◌, ◌<◌}
-use lib.ListN.{length}
+use Rattle.std.proofs.Common.{◌≡◌, refl, sym, Result, Ok, Err, List, ℕ, ◌≤◌, ◌<◌, length}
 use borrow.Author.Tests.{lt-ltb, le-ltb}
 use Rattle.common.specs.Stores.{Wrote}
 use Rattle.rules.specs.declared.Refusal.{Refusal}
 use Rattle.rules.specs.declared.Refusal.TheVariants.{StreamLength}
-use Rattle.rules.specs.declared.Verdict.TheVariants.{Carried, Refused}
-use Rattle.rules.specs.declared.Unparked.{Unparked}
+use Rattle.rules.specs.declared.Stored.{Stored}
+use Rattle.rules.specs.Given.{Unparked, Carried, Refused}
+use Rattle.rules.specs.Given as Given
 use Rattle.rules.specs.Measure.{longest_stream}
-use Rattle.rules.specs.Park.{unpark}
+use Rattle.rules.specs.Forms.{parked_of}
+use Rattle.rules.specs.Park.{unparked, unpark}
 use Rattle.report_verdict.specs.declared.Saying.{Saying}
-use Rattle.report_verdict.specs.Said.{SaysVerdict}
+use Rattle.report_verdict.specs.Said.{length_of, SaysVerdict}
 use Rattle.report_verdict.proofs.Spoken.{one_said}
-use Rattle.unpark_say.specs.Said.{held_by, Says, OneSaying}
+use Rattle.unpark_say.specs.Said.{holds, Tells, Says, OneSaying}
 
-module _ (s room : List ℕ) (r : Saying) (after : List ℕ) where
+module _ (s room after : List ℕ) where
   -- a text longer than its place
-  pub long_said : longest_stream < length s → SaysVerdict (Refused StreamLength) 0 room r after → Says s room r after
-  long_said h y = rw (lt-ltb longest_stream (length s) h) (record { refused = y.refused; text = y.ended })
+  pub long_told : longest_stream < length s → Tells s room (Err StreamLength) room
+  long_told h = (rw (lt-ltb longest_stream (length s) h) refl, refl)
 
-  module _ (h : length s ≤ longest_stream) (u : Unparked) (e : u ≡ unpark s) where
+  module _ (h : length s ≤ longest_stream) where
     -- one that does not read
-    pub refused_said : (why : Refusal) → u.verdict ≡ Refused why → SaysVerdict u.verdict 0 room r after → Says s room r after
-    refused_said why v y =
-        let k = rw v at y in
-        rw (le-ltb longest_stream (length s) h, ← e, v) (record { refused = k.refused; text = k.ended })
+    pub refused_told : (why : Refusal) → unparked (Err why) ≡ unpark s → Tells s room (Err why) room
+    refused_told why e = (rw (le-ltb longest_stream (length s) h, ← e) refl, refl)
 
--- one that reads
-pub held_said : (s room after : List ℕ) (end : ℕ) → length s ≤ longest_stream → (u : Unparked) → u ≡ unpark s → u.verdict ≡ Carried → Wrote room 0 (held_by u) after end
-    → Says s room (record { refused = false; end = end }) after
-held_said s room after end h u e v w = rw (le-ltb longest_stream (length s) h, ← e, v) (record { refused = refl; text = w })
+    -- one that reads
+    pub held_told : (j : Stored) → unparked (Ok j) ≡ unpark s → (end : ℕ) → Wrote room 0 (holds (parked_of j.wide j.high j.state)) after end → Tells s room (Ok end) after
+    held_told j e end w = (rw (le-ltb longest_stream (length s) h, ← e) refl, rw (← e) w)
+
+-- what is told is said
+pub said : (s room left after : List ℕ) (o : Result ℕ Refusal) (r : Saying) → Tells s room o left → SaysVerdict (Given.verdict_of o) (length_of o) left r after → Says s room r after
+said s room left after (Ok end) r t y = rw t.0 (record { refused = y.refused; text = rw (sym y.ended.0, sym y.ended.1) at t.1 })
+said s room left after (Err why) r t y = rw t.0 (record { refused = y.refused; text = rw t.1 at y.ended })
 
 -- one saying
 pub one_saying : OneSaying

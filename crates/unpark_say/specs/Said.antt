@@ -1,9 +1,11 @@
 -- What the program `unpark` says of a text: what it holds, a line for each member and then the positions and the row; or a refusal in one line.
-use Rattle.std.specs.Prelude.{◌≡◌, true, cond, List, [], ◌∷◌, ℕ, ◌+◌, ◌≤◌, length, get_or, take, drop}
+use Rattle.std.specs.Prelude.{Result, Ok, Err, ◌≡◌, true, cond, List, [], ◌∷◌, ℕ, ◌≤◌, length, take}
+use Rattle.common.specs.Stores.{Wrote}
+use Rattle.rules.specs.declared.Refusal.{Refusal}
 use Rattle.rules.specs.declared.Refusal.TheVariants.{StreamLength}
-use Rattle.rules.specs.declared.Verdict.{Verdict}
-use Rattle.rules.specs.declared.Verdict.TheVariants.{Carried, Refused}
-use Rattle.rules.specs.declared.Unparked.{Unparked}
+use Rattle.rules.specs.Given.{Verdict}
+use Rattle.rules.specs.Given.{Carried, Refused}
+use Rattle.rules.specs.Given.{Unparked}
 use Rattle.rules.specs.Measure.{is_too_long}
 use Rattle.rules.specs.Texts.{put_many, put_position, put_row}
 use Rattle.rules.specs.Forms.{Parked, parked_of, JOB}
@@ -72,13 +74,6 @@ member_lines [] l s = s
 member_lines (name ∷ more) [] s = s
 member_lines (name ∷ more) (n ∷ l) s = line name (n ∷ []) (member_lines more l s)
 
--- four of them, from place k on
-abbrev pub four_names : ℕ → List (List ℕ)
-four_names k = take 4 (drop k names)
-
-abbrev pub four_numbers : ℕ → List ℕ → List ℕ
-four_numbers k l = get_or l k 0 ∷ get_or l (k + 1) 0 ∷ get_or l (k + 2) 0 ∷ get_or l (k + 3) 0 ∷ []
-
 -- ---- what is said
 -- the members, and the lines POS and ROW as the text has them
 unfoldable pub holds : Parked → List ℕ
@@ -92,6 +87,11 @@ held_by u = holds (parked_of u.wide u.high u.state)
 -- 17 and 18 as reading gives them; 12 for what is longer than the program's place, as the report has it for its own limit
 abbrev pub verdict_of : List ℕ → Verdict
 verdict_of s = cond (is_too_long s) (Refused StreamLength) (unpark s).verdict
+
+-- what is written of a text: what it holds, from the start of the room on, as far as there is room; nothing where it is refused
+abbrev pub Tells : List ℕ → List ℕ → Result ℕ Refusal → List ℕ → Type 0
+Tells s room (Ok end) after = (verdict_of s ≡ Carried) × Wrote room 0 (held_by (unpark s)) after end
+Tells s room (Err why) after = (verdict_of s ≡ Refused why) × (after ≡ room)
 
 -- by that verdict
 abbrev pub Says : List ℕ → List ℕ → Saying → List ℕ → Type 0

@@ -2,106 +2,69 @@
 // refusal.
 #![tactic(auto)]
 
-ghost use Rattle.std.specs.Prelude.{[], ◌∷◌};
-ghost use Rattle.common.specs.Stores.{Wrote};
+ghost use Rattle.std.specs.Prelude.{[]};
+ghost use Rattle.common.specs.Writing.{Written};
 ghost use Rattle.rules.specs.Forms.{parked_of, JOB};
 ghost use Rattle.rules.specs.Park.{give_out};
-ghost use Rattle.rules.specs.Report.{line};
-ghost use Rattle.unpark_say.specs.Said.{names, member_lines, four_names, four_numbers, holds, Says};
+ghost use Rattle.unpark_say.specs.Said.{names, member_lines, holds, Tells, Says};
 
-use park_text::{numbers_of, write_positions, write_row};
-use report_line::{write_last_field, write_word};
+use common::Writer;
+use park_text::{numbers_of, seed_row, stacked, write_positions, write_row};
+use report_line::write_line;
 use report_verdict::{Saying, say};
-use rules::{LONGEST_STREAM, Refusal, State, Verdict};
+use rules::{LONGEST_STREAM, Refusal, State, Stored};
 use unpark_read::unpark;
 
-// The line of a member.
-fn write_member(name: &[u8], n: usize, room: &mut [u8], at: usize) -> usize
-    ensures { Wrote room.old at (line name.now (n ∷ []) []) room.new result }
-{
-    let behind = write_word(name, room, at);
-    write_last_field(n, room, behind)
-}
-
-// The page and the cursor, of the numbers of a line JOB.
-fn write_page(n: [usize; 16], room: &mut [u8], at: usize) -> usize
-    ensures { Wrote room.old at (member_lines (four_names 0) (four_numbers 0 n) []) room.new result }
-{
-    let h = write_member(b"W", n[0], room, at);
-    let x = write_member(b"H", n[1], room, h);
-    let y = write_member(b"x", n[2], room, x);
-    write_member(b"y", n[3], room, y)
-}
-
-// The margins and HMI.
-fn write_margins(n: [usize; 16], room: &mut [u8], at: usize) -> usize
-    ensures { Wrote room.old at (member_lines (four_names 4) (four_numbers 4 n) []) room.new result }
-{
-    let right = write_member(b"L", n[4], room, at);
-    let top = write_member(b"R", n[5], room, right);
-    let hmi = write_member(b"T", n[6], room, top);
-    write_member(b"HMI", n[7], room, hmi)
-}
-
-// VMI, line termination, and how rows are read.
-fn write_modes(n: [usize; 16], room: &mut [u8], at: usize) -> usize
-    ensures { Wrote room.old at (member_lines (four_names 8) (four_numbers 8 n) []) room.new result }
-{
-    let termination = write_member(b"VMI", n[8], room, at);
-    let resolution = write_member(b"termination", n[9], room, termination);
-    let method = write_member(b"resolution", n[10], room, resolution);
-    write_member(b"method", n[11], room, method)
-}
-
-// How far raster graphics and the page are, and how many positions are stacked.
-fn write_rest(n: [usize; 16], room: &mut [u8], at: usize) -> usize
-    ensures { Wrote room.old at (member_lines (four_names 12) (four_numbers 12 n) []) room.new result }
-{
-    let margin = write_member(b"started", n[12], room, at);
-    let used = write_member(b"margin", n[13], room, margin);
-    let depth = write_member(b"used", n[14], room, used);
-    write_member(b"depth", n[15], room, depth)
-}
-
-// A line for each member, from the start of the room on.
-fn write_members(w: usize, h: usize, t: State, room: &mut [u8]) -> usize
-    ensures { Wrote room.old 0 (member_lines names (give_out JOB.members (parked_of w h t)) []) room.new result }
+// A line for each member of the line JOB. They stand one by one, each name beside its number: a table of names to go over with the numbers is no plainer.
+fn write_members(w: usize, h: usize, t: &State, out: &mut Writer)
+    ensures { Written out.old (member_lines names (give_out JOB.members (parked_of w h t.now)) []) out.new }
 {
     let n = numbers_of(w, h, t);
-    let margins = write_page(n, room, 0);
-    let modes = write_margins(n, room, margins);
-    let rest = write_modes(n, room, modes);
-    write_rest(n, room, rest)
+    write_line(b"W", &[n[0]], out);
+    write_line(b"H", &[n[1]], out);
+    write_line(b"x", &[n[2]], out);
+    write_line(b"y", &[n[3]], out);
+    write_line(b"L", &[n[4]], out);
+    write_line(b"R", &[n[5]], out);
+    write_line(b"T", &[n[6]], out);
+    write_line(b"HMI", &[n[7]], out);
+    write_line(b"VMI", &[n[8]], out);
+    write_line(b"termination", &[n[9]], out);
+    write_line(b"resolution", &[n[10]], out);
+    write_line(b"method", &[n[11]], out);
+    write_line(b"started", &[n[12]], out);
+    write_line(b"margin", &[n[13]], out);
+    write_line(b"used", &[n[14]], out);
+    write_line(b"depth", &[n[15]], out);
 }
 
-// What a text holds, of its page measure and its state.
-fn write_held(w: usize, h: usize, t: State, room: &mut [u8]) -> usize
-    ensures { Wrote room.old 0 (holds (parked_of w h t)) room.new result }
+// What a text holds.
+fn write_held(j: &Stored, out: &mut Writer)
+    ensures { Written out.old (holds (parked_of j.now.wide j.now.high j.now.state)) out.new }
 {
-    let core = t.core;
-    let stack = core.stack;
-    let seed = core.seed;
-    let positions = write_members(w, h, t, room);
-    let row = write_positions(core.depth, stack, room, positions);
-    write_row(w / 8, seed, room, row)
+    write_members(j.wide, j.high, &j.state, out);
+    let core = &j.state.core;
+    write_positions(stacked(core.depth, &core.stack), out);
+    write_row(seed_row(j.wide, core), out);
 }
 
-// What a text holds, at the front of the room, or the line of the refusal: 12 where it is longer than any stream may be, else 17 or 18.
+// What a text holds, written to the front of the room: where it ends. 12 where the text is longer than any stream may be, else 17 or 18.
+fn tell(s: &[u8], room: &mut [u8]) -> Result<usize, Refusal>
+    ensures { Tells s.now room.old result room.new }
+{
+    if LONGEST_STREAM < s.len() {
+        return Err(Refusal::StreamLength);
+    }
+    let held = unpark(s)?;
+    let mut out = Writer { room, at: 0 };
+    write_held(&held, &mut out);
+    Ok(out.at)
+}
+
+// What a text holds, at the front of the room, or the line of the refusal.
 pub fn say_unparked(s: &[u8], room: &mut [u8]) -> Saying
     ensures { Says s.now room.old result room.new }
 {
-    if LONGEST_STREAM < s.len() {
-        return say(Verdict::Refused(Refusal::StreamLength), 0, room);
-    }
-    let u = unpark(s);
-    let verdict = u.verdict;
-    let Verdict::Carried = verdict else {
-        return say(verdict, 0, room);
-    };
-    let t = u.state;
-    let end = write_held(u.wide, u.high, t, room);
-    Saying {
-        refused: false,
-        end,
-    }
+    let outcome = tell(s, room);
+    say(outcome, room)
 }

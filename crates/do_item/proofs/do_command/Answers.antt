@@ -11,8 +11,5 @@ returns-in-Method c = command_told _ _ _ _ _ _ _ _ _ _ _ c.in-Method.is (c.do_me
 pub returns-in-Print : goal.returns-in-Print
 returns-in-Print c = command_told _ _ _ _ _ _ _ _ _ _ _ c.in-Print.is (c.do_print.ensures _ _)
 
-pub returns-in-Row : goal.returns-in-Row
-returns-in-Row c = command_told _ _ _ _ _ _ _ _ _ _ _ c.in-Row.is c.do_row.ensures
-
 pub returns-in-Unknown : goal.returns-in-Unknown
 returns-in-Unknown c = command_unknown _ _ _ _ _ _ _ _ c.in-Unknown.is c.kept.ensures

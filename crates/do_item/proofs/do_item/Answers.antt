@@ -1,10 +1,6 @@
 -- `do_item::do_item` meets its contract. Assumes nothing.
-use borrow.Author.Rules.{rules}
-use Rattle.do_item.proofs.Items.{no_command, item_command}
+use Rattle.do_item.proofs.Items.{item_command}
 use Rattle.do_item.proofs.do_item.Goals as goal
-
-pub do_bytes-requires : goal.do_bytes-requires
-do_bytes-requires c = search (no_command, c.in_default.not-Command, rules)
 
 pub returns-in_default : goal.returns-in_default
 returns-in_default c = c.do_bytes.ensures _ _

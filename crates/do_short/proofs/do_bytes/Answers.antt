@@ -1,7 +1,6 @@
 -- `do_short::do_bytes` meets its contract. Assumes nothing.
+use Rattle.do_short.proofs.Short.{bytes_told, bytes_broken}
 use Rattle.rules.specs.Acts.{mean}
-use Rattle.do_short.proofs.Short.{bytes_told, bytes_broken, no_command}
-use mathlib.Core.Path.{refl}
 use Rattle.do_short.proofs.do_bytes.Goals as goal
 
 pub returns-in-Text : goal.returns-in-Text
@@ -15,9 +14,6 @@ returns-in-Code c = λ s. bytes_told _ _ _ _ _ _ _ _ s c.in-Code.is (c.do_code_b
 pub returns-in-Two : goal.returns-in-Two
 unfolding mean
 returns-in-Two c = λ s. bytes_told _ _ _ _ _ _ _ _ s c.in-Two.is c.do_escape_byte.ensures
-
-pub returns-in-Command : goal.returns-in-Command
-returns-in-Command c = absurd (no_command _ _ c.in-Command.is refl c.requires.i_value)
 
 pub returns-in-Broken : goal.returns-in-Broken
 returns-in-Broken c = bytes_broken _ _ _ _ _ _ _ c.in-Broken.is c.kept-in-Broken.ensures

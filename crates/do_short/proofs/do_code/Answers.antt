@@ -3,4 +3,4 @@ use Rattle.do_short.proofs.Short.{code_deed}
 use Rattle.do_short.proofs.do_code.Goals as goal
 
 pub returns : goal.returns
-returns c = code_deed _ _ _ _ _ _ _ c.coded_at-at.ensures c.code_ends_page-ended.ensures c.used_behind-used.ensures
+returns c = code_deed _ _ _ _ _ _ _ _ c.coded_at.ensures c.code_ends_page-ended.ensures c.used_behind.ensures c.kept.ensures

@@ -1,14 +1,9 @@
 -- `door::rov_sound` meets its contract. Assumes nothing.
-use Rattle.run.proofs.Answers.{fits}
 use Rattle.door.proofs.Told.{sound_not, sound_told}
-use borrow.Author.Rules.{rules}
 use Rattle.door.proofs.rov_sound.Goals as goal
 
-pub returns-then-not-allowed : goal.returns-then-not-allowed
-returns-then-not-allowed c = search (sound_not, rules)
+pub returns-in-Some : goal.returns-in-Some
+returns-in-Some c = sound_told _ _ _ c.page_of.ensures _ c.in-Some.is _ _ _ c.read_state.ensures c.sound.ensures
 
-pub sound-requires : goal.sound-requires
-sound-requires c = let h = fits _ _ _ c.allowed.ensures c.if-not-allowed.false _ c.measure_of-g.ensures in (h.wide, h.high)
-
-pub returns : goal.returns
-returns c = search (sound_told, rules)
+pub returns-in-None : goal.returns-in-None
+returns-in-None c = sound_not _ _ _ c.page_of.ensures _ c.in-None.is

@@ -1,7 +1,6 @@
 -- `dot_ink::three_first` meets its contract, by a test of every number. Assumes nothing.
 use Prim.Native.Nat.{◌+◌, ◌*◌, ◌/◌, ◌%◌}
 use borrow.Author.Rules.{rules}
-use borrow.Author.Rules.{rules}
 use Rattle.common.specs.Bits.{bit, byte_of}
 use Rattle.dot_ink.specs.Ink.{spread_of}
 use Rattle.dot_ink.proofs.Inks.{spread_by}

@@ -8,15 +8,14 @@ pub returns-then-n-eq0 : goal.returns-then-n-eq0
 returns-then-n-eq0 c = search (shifting_none, rules)
 
 pub loop-j-init : goal.loop-j-init
-loop-j-init c = search (shifting_starts, rules)
+loop-j-init c = shifting_starts _ _ _
 
 pub loop-j-preserved : goal.loop-j-preserved
-loop-j-preserved c =
-    let v = c.loop-j in
-    (shifting_next _ _ _ _ _ _ _ v.invariant.0 (omega arith) (omega arith) (omega arith) c.window.ensures, v.invariant.1, omega arith, omega arith, v.invariant.4)
+loop-j-preserved c = shifting_next _ _ _ _ _ _ _ c.loop-j.invariant (omega arith) (omega arith) (omega arith) c.window.ensures
 
 pub returns-then-n-part : goal.returns-then-n-part
-returns-then-n-part c = search (shifted_past, rules)
+returns-then-n-part c =
+    shifted_past _ _ _ _ c.loop-j.j _ _ _ c.loop-j.invariant c.min-n.ensures (omega arith) (omega arith) (omega arith) c.window-2.ensures (omega arith) c.window-then-n-part.ensures
 
 pub returns-else-n-part : goal.returns-else-n-part
-returns-else-n-part c = search (shifted_whole, rules)
+returns-else-n-part c = shifted_whole _ _ _ _ c.loop-j.j _ _ c.loop-j.invariant c.min-n.ensures (omega arith) (omega arith) (omega arith) c.window-2.ensures (omega arith)

@@ -1,12 +1,6 @@
 -- `dot_lay::or_shifted` meets its contract: the bytes from 1 up to j are or-ed, then the first, then the one behind the source. Assumes nothing.
-use mathlib.Core.Path.{◌≡◌}
-use Prim.Native.Nat.{◌-◌, ◌≤◌, ◌<◌, min}
-use lib.ListN.{length}
 use Rattle.dot_lay.proofs.Windows.{Shifting}
 use Rattle.dot_lay.proofs.or_shifted.Given as goal
 
 abbrev pub invariant-loop-j : goal.invariant-loop-j
-invariant-loop-j l = Shifting l.initial.part l.src l.s l.part 1 l.j × (l.n ≡ min (length l.initial.part) (length l.src)) × (1 ≤ l.j) × (l.j ≤ l.n) × (l.s < 8)
-
-abbrev pub decreases-loop-j : goal.decreases-loop-j
-decreases-loop-j l = l.n - l.j
+invariant-loop-j l = Shifting l.initial.part l.src l.s l.part 1 l.j

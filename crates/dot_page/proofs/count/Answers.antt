@@ -1,21 +1,22 @@
--- `dot_page::count` meets its contract: what is summed, and the ones still to come, are the ones of the page. Assumes nothing.
+-- `dot_page::count` meets its contract: the ones of the bytes behind the sixteens, and of the sixteens so far, are summed. Assumes nothing.
+use mathlib.Core.Path.{◌≡◌, ◌∙◌}
+use Prim.Native.Nat.{◌/◌}
 use native.Mathlib.Omega.{arith}
-use lib.Count.{ones-le}
+use lib.ListN.{length}
 use borrow.Author.Rules.{rules}
-use Rattle.dot_page.proofs.Bytes.{counted_more, counted}
+use Rattle.common.specs.Bits.{ones_all}
+use Rattle.dot_page.proofs.Bytes.{summing_starts, summing_more, summing_ends}
 use Rattle.dot_page.proofs.count.Goals as goal
 
-pub overflow_cast-sum : goal.overflow_cast-sum
-overflow_cast-sum c = omega (arith, ones-le 8 _ (c.shared_slice_known-in-loop-i-2-1.given c.loop-i-2.i).fits)
+pub loop-bytes-init : goal.loop-bytes-init
+loop-bytes-init c = search (summing_starts, rules)
 
-pub overflow_add-sum-in-loop-i-2 : goal.overflow_add-sum-in-loop-i-2
-overflow_add-sum-in-loop-i-2 c = omega (arith, ones-le 8 _ (c.shared_slice_known-in-loop-i-2-1.given c.loop-i-2.i).fits)
-
-pub loop-i-2-preserved : goal.loop-i-2-preserved
-loop-i-2-preserved c =
-    let i = c.loop-i-2.i in
-    let page = c.args.page.now in
-    counted_more page i c.loop-i-2.invariant (omega arith) (c.shared_slice_known-in-loop-i-2-1.given i).fits
+pub loop-bytes-preserved : goal.loop-bytes-preserved
+loop-bytes-preserved c =
+    summing_more _ _ _ _ _ c.loop-bytes.invariant (omega arith) (c.from-sum-in-loop-bytes.ensures ∙ c.few-in-loop-bytes.ensures) (omega arith)
 
 pub returns : goal.returns
-returns c = search (counted, rules)
+returns c =
+    let page = c.args.page.now in
+    let r : c.from-sum.result ≡ ones_all c.as_chunks.result.1.now = c.from-sum.ensures ∙ c.few.ensures in
+    summing_ends page _ _ 16 (length page / 16) _ _ _ c.loop-bytes.invariant (omega arith) c.as_chunks.ensures.front c.as_chunks.ensures.back r

@@ -2,7 +2,6 @@
 use borrow.Author.Rules.{rules}
 use Rattle.dot_paint.proofs.Covers.{lines_blank}
 use Rattle.dot_paint.proofs.Alike.{lines_unmarked, lines_used}
-use Rattle.dot_paint.proofs.Squares.{used_length}
 use Rattle.dot_paint.proofs.paint_rest.Goals as goal
 
 pub returns-then-dots-eq0 : goal.returns-then-dots-eq0
@@ -11,8 +10,5 @@ returns-then-dots-eq0 c = search (lines_blank, rules)
 pub returns-then-e-eq0 : goal.returns-then-e-eq0
 returns-then-e-eq0 c = lines_unmarked _ _ _ _ _ _ c.used-e.ensures c.if-e-eq0.true (λ i. (c.type_inv.page i).fits)
 
-pub slice_bounds-lay_lines-end : goal.slice_bounds-lay_lines-end
-slice_bounds-lay_lines-end c = search (used_length, rules)
-
-pub returns-then-dots-eq1 : goal.returns-then-dots-eq1
-returns-then-dots-eq1 c = search (lines_used, rules)
+pub returns-else-contains : goal.returns-else-contains
+returns-else-contains c = lines_used _ _ _ _ _ _ _ c.used-e.ensures c.paint_lines.ensures

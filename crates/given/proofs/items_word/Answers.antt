@@ -1,10 +1,8 @@
 -- `given::items_word` meets its contract. Assumes nothing.
-use Rattle.given.specs.Words.{SpeltBy}
-use Rattle.given.proofs.Words.{word_spelt}
+use borrow.Author.Rules.{rules}
+use Rattle.number_word.specs.Words.{items_word}
+use Rattle.given.proofs.Words.{spelt_by}
 use Rattle.given.proofs.items_word.Goals as goal
 
-pub returns-then-not-word : goal.returns-then-not-word
-returns-then-not-word g c = SpeltBy.none
-
 pub returns : goal.returns
-returns g c = word_spelt _ _ c.word_at-word.ensures c.items_of_word.ensures
+returns g c = spelt_by items_word (λ w n p. search rules) c.word_read.ensures

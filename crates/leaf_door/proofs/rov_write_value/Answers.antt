@@ -1,11 +1,7 @@
-use Rattle.leaf_door.proofs.Laws.{wrote_relative, wrote_absolute}
+-- `leaf_door::rov_write_value` meets its contract: a place beyond the room is as good as its end. Assumes nothing.
 use borrow.Author.Rules.{rules}
+use Rattle.leaf_door.proofs.Laws.{wrote_from}
 use Rattle.leaf_door.proofs.rov_write_value.Goals as goal
 
--- src/lib.rt:282:1
-pub returns-then-relative : goal.returns-then-relative
-returns-then-relative c = search (wrote_relative, wrote_absolute, rules)
-
--- src/lib.rt:282:1
-pub returns-else-relative : goal.returns-else-relative
-returns-else-relative c = search (wrote_relative, wrote_absolute, rules)
+pub returns : goal.returns
+returns c = wrote_from _ _ _ _ _ _ _ c.min-at.ensures c.value_from.ensures (search rules)

@@ -1,16 +1,16 @@
--- `number_write::fill_digits` meets its contract. The loop's invariant: with the digits that are left all are there; the measure is what is left. Assumes nothing.
-use borrow.Author.Rules.{rules}
+-- A digit goes to its place, and those before it are left.
+use Rattle.std.proofs.Common.{arith}
 use Rattle.number_write.proofs.Writing.{filling_start, filling_more, filling_again, filling_end}
 use Rattle.number_write.proofs.fill_digits.Goals as goal
 
 pub loop-left-init : goal.loop-left-init
-loop-left-init c = search (filling_start, rules)
+loop-left-init c = filling_start _ _ c.ranges.n.fits c.told-digits
 
 pub overflow_sub-i : goal.overflow_sub-i
-overflow_sub-i c = search (filling_more, rules)
+overflow_sub-i c = filling_more _ _ _ _ c.loop-left.invariant c.loop-left-test.true
 
 pub loop-left-preserved : goal.loop-left-preserved
-loop-left-preserved c = search (filling_again, rules)
+loop-left-preserved c = filling_again _ _ _ _ c.loop-left.invariant c.loop-left-test.true
 
 pub returns : goal.returns
-returns c = search (filling_end, rules)
+returns c = (filling_end _ _ _ _ c.loop-left.invariant c.loop-left-test.false, omega (arith, c.loop-left.invariant.inside))

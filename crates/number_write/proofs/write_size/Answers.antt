@@ -1,10 +1,9 @@
--- `number_write::write_size` meets its contract: with no places there is no point. Assumes nothing.
-use borrow.Author.Rules.{rules}
-use Rattle.number_write.proofs.Writing.{wrote_whole, wrote_point}
+-- A size is its number alone, or its number, a point and places.
+use Rattle.number_write.proofs.Writing.{written_whole, written_point}
 use Rattle.number_write.proofs.write_size.Goals as goal
 
 pub returns-then-part-eq0 : goal.returns-then-part-eq0
-returns-then-part-eq0 c = search (wrote_whole, rules)
+returns-then-part-eq0 c = written_whole _ c.write_decimal.ensures c.if-part-eq0.true
 
 pub returns : goal.returns
-returns c = search (wrote_point, rules)
+returns c = written_point _ c.write_decimal.ensures c.if-part-eq0.false c.put.ensures c.write_places.ensures

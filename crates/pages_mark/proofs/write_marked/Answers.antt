@@ -1,10 +1,9 @@
--- `pages_mark::write_marked` meets its contract. Assumes nothing.
-use borrow.Author.Rules.{rules}
-use Rattle.pages_mark.proofs.Marking.{wrote_unmarked, wrote_marked}
+-- A finding has its line, and its mark behind it.
+use Rattle.std.proofs.Common.{sym, ◌∙◌}
+use Rattle.pages_mark.proofs.Marking.{wrote_marked}
 use Rattle.pages_mark.proofs.write_marked.Goals as goal
 
-pub returns-then-n-eq0 : goal.returns-then-n-eq0
-returns-then-n-eq0 c = search (wrote_unmarked, rules)
-
 pub returns : goal.returns
-returns c = search (wrote_marked, rules)
+returns c =
+    wrote_marked _ _ _ c.write_fault.ensures (sym c.is_clean.ensures ∙ c.if-is_clean.false)
+    (rw c.finding_number-n.ensures at c.write_line.ensures)

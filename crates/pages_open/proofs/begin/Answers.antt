@@ -1,13 +1,7 @@
--- `pages_open::begin` meets its contract. Assumes nothing.
-use borrow.Author.Rules.{rules}
-use Rattle.pages_open.proofs.Holding.{begins_no_page, begins_too_long, begins_taken}
+-- The lines that were written are there whole.
+use Rattle.std.proofs.Common.{rules}
+use Rattle.pages_open.proofs.Holding.{begins}
 use Rattle.pages_open.proofs.begin.Goals as goal
 
-pub returns-then-not-allowed : goal.returns-then-not-allowed
-returns-then-not-allowed c = search (begins_no_page, rules)
-
-pub returns-then-s-gt-LONGEST_STREAM : goal.returns-then-s-gt-LONGEST_STREAM
-returns-then-s-gt-LONGEST_STREAM c = search (begins_too_long, rules)
-
 pub returns : goal.returns
-returns c = search (begins_taken, rules)
+returns c = begins _ _ _ _ c.refusal_of-refusal.ensures c.is_some.ensures (search rules)

@@ -1,13 +1,13 @@
--- `park_text::fields_length` meets its contract. The loop's invariant: the bytes counted and those left are all. Assumes nothing.
+-- `park_text::fields_length` meets its contract. Assumes nothing.
+use Rattle.std.proofs.Common.{arith}
 use Rattle.park_text.proofs.Counting.{counts_start, fields_count, fields_counted}
-use borrow.Author.Rules.{rules}
 use Rattle.park_text.proofs.fields_length.Goals as goal
 
-pub loop-i-init : goal.loop-i-init
-loop-i-init c = search (counts_start, rules)
+pub loop-n-init : goal.loop-n-init
+loop-n-init c = counts_start _ _
 
-pub loop-i-preserved : goal.loop-i-preserved
-loop-i-preserved c = search (fields_count, rules)
+pub loop-n-preserved : goal.loop-n-preserved
+loop-n-preserved c = fields_count c.args.numbers.now c.loop-n.count c.loop-n.n-index c.loop-n.invariant c.field_length-count.result c.loop-n-test.true c.field_length-count.ensures
 
 pub returns : goal.returns
-returns c = search (fields_counted, rules)
+returns c = fields_counted c.args.numbers.now c.loop-n.count c.loop-n.n-index c.loop-n.invariant c.loop-n-test.false (omega arith) c.requires

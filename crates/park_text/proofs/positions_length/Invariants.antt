@@ -1,14 +1,8 @@
--- `park_text::positions_length` meets its contract. The loop's invariant: the bytes counted and those left are all. Assumes nothing.
-use mathlib.Core.Path.{◌≡◌}
-use mathlib.Core.List.{[]}
-use Prim.Native.Nat.{◌-◌, ◌≤◌}
-use lib.ListN.{length, take, drop}
+-- `park_text::positions_length` meets its contract. The bytes counted and those left are all. Assumes nothing.
+use Rattle.std.proofs.Common.{[], drop}
 use Rattle.rules.specs.Texts.{put_many, put_position}
 use Rattle.park_text.proofs.Counting.{Counts}
 use Rattle.park_text.proofs.positions_length.Given as goal
 
-abbrev pub invariant-loop-i : goal.invariant-loop-i
-invariant-loop-i l = (length l.stack ≡ 20) × (l.i ≤ 20) × Counts (put_many put_position (take l.depth l.stack) []) 46 l.count l.i (put_many put_position (drop l.i (take l.depth l.stack)) [])
-
-abbrev pub decreases-loop-i : goal.decreases-loop-i
-decreases-loop-i l = l.most - l.i
+abbrev pub invariant-loop-p : goal.invariant-loop-p
+invariant-loop-p l = Counts (put_many put_position l.spots []) 46 l.count l.p-index (put_many put_position (drop l.p-index l.spots) [])

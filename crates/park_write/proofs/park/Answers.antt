@@ -1,23 +1,16 @@
 -- `park_write::park` meets its contract. Assumes nothing.
-use Rattle.park_laws.proofs.Sounds.{bounded}
-use Rattle.park_write.proofs.Answers.{no_measure, no_state_lem, no_end, no_room_lem, carried}
-use borrow.Author.Rules.{rules}
+use Rattle.std.proofs.Common.{◌≡◌, ◌≤◌, true, false, length, arith, rules}
+use Rattle.rules.specs.Measure.{allowed, measure_of}
+use Rattle.rules.specs.Sound.{sound}
+use Rattle.rules.specs.Park.{is_open}
+use Rattle.park_write.proofs.Answers.{page_on, carried}
 use Rattle.park_write.proofs.park.Goals as goal
 
-pub returns-then-not-allowed : goal.returns-then-not-allowed
-returns-then-not-allowed c = search (no_measure, rules)
-
-pub sound-requires : goal.sound-requires
-sound-requires c = search (bounded, rules)
-
-pub returns-then-not-sound : goal.returns-then-not-sound
-returns-then-not-sound c = search (no_state_lem, rules)
-
-pub returns-then-is_open : goal.returns-then-is_open
-returns-then-is_open c = search (no_end, rules)
-
-pub returns-then-room-n : goal.returns-then-room-n
-returns-then-room-n c = search (no_room_lem, rules)
-
 pub returns : goal.returns
-returns c = search (carried, rules)
+returns c =
+    let k = page_on (allowed c.args.w c.args.h) (measure_of c.args.w c.args.h) c.in_ok-g.g c.page_of.result c.page_of.ensures (rw c.in_ok-g.was at c.ok_or.ensures.ok_part) in
+    let b : sound c.in_ok-g.g c.args.t ≡ true = search rules in
+    let d : sound (measure_of c.args.w c.args.h) c.args.t ≡ true = rw k.1 b in
+    let o : is_open c.args.t.sequence ≡ false = search rules in
+    let e : c.text_length-n.result ≤ length c.args.room.now = omega arith in
+    search (carried c.args.w c.args.h c.args.t c.args.room.now k.0 d o c.text_length-n.result c.text_length-n.ensures e, rules)

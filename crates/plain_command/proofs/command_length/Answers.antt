@@ -1,10 +1,6 @@
--- `plain_command::command_length` meets its contract. Assumes nothing.
-use borrow.Author.Rules.{rules}
-use Rattle.plain_command.proofs.Writing.{length_valued, length_bare}
+-- A command is four bytes and its value.
+use Rattle.plain_command.proofs.Writing.{order_counted}
 use Rattle.plain_command.proofs.command_length.Goals as goal
 
-pub returns-then-name : goal.returns-then-name
-returns-then-name c = search (length_valued, length_bare, rules)
-
 pub returns : goal.returns
-returns c = search (length_valued, length_bare, rules)
+returns c = order_counted _ _ _ c.used_length.ensures

@@ -1,10 +1,6 @@
--- `plain_command::write_command` meets its contract. Assumes nothing.
-use borrow.Author.Rules.{rules}
-use Rattle.plain_command.proofs.Writing.{wrote_valued, wrote_bare}
+-- A command is three bytes, its value, and its letter.
+use Rattle.plain_command.proofs.Writing.{wrote_order}
 use Rattle.plain_command.proofs.write_command.Goals as goal
 
-pub returns-then-by : goal.returns-then-by
-returns-then-by c = search (wrote_valued, wrote_bare, rules)
-
 pub returns : goal.returns
-returns c = search (wrote_valued, wrote_bare, rules)
+returns c = wrote_order _ _ (rw c.name_of.ensures at c.write_start.ensures) c.write_used.ensures (rw c.name_of.ensures at c.put.ensures)

@@ -1,6 +1,6 @@
--- `plain_item::write_print` meets its contract. Assumes nothing.
+-- A negative value writes nothing; else there is a head and its payload, or the room is full.
+use Rattle.std.proofs.Common.{refl, rules}
 use Rattle.plain_item.proofs.Writing.{print_none, print_out, print_put}
-use borrow.Author.Rules.{rules}
 use Rattle.plain_item.proofs.write_print.Goals as goal
 
 pub returns-then-whole_negative : goal.returns-then-whole_negative
@@ -10,4 +10,6 @@ pub returns-then-room-at : goal.returns-then-room-at
 returns-then-room-at c = search (print_out, rules)
 
 pub returns : goal.returns
-returns c = search (print_put, rules)
+returns c =
+    print_put c.args.v c.args.payload.now c.args.room.now c.args.at _ _ _ c.whole_negative.ensures c.if-whole_negative.false refl c.requires.1
+    c.head_length.ensures _ _ c.write_print_head.new.out.at (search rules) c.copy.ensures

@@ -1,7 +1,7 @@
--- `plain_short::write_two` meets its contract. Assumes nothing.
-use Rattle.plain_short.proofs.Bytes.{puts_two}
-use borrow.Author.Rules.{rules}
+-- Two bytes are one behind the other.
+use Rattle.std.proofs.Common.{[], ◌∷◌}
+use Rattle.plain_short.proofs.Bytes.{puts_both}
 use Rattle.plain_short.proofs.write_two.Goals as goal
 
 pub returns : goal.returns
-returns c = search (puts_two, rules)
+returns c = puts_both (27 ∷ []) (c.args.b ∷ []) c.write_one-next.ensures c.write_one.ensures

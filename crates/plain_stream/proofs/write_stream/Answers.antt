@@ -1,51 +1,47 @@
 -- `plain_stream::write_stream` meets its contract. Assumes nothing.
-use Rattle.plain_stream.proofs.Telling.{telling_long, telling_small, telling_beyond, telling_over, text_less, walking_first, walking_depth, walking_zero, walking_long, walking_text, deed_long, deed_seed, deed_less, walking_deed}
-use Rattle.run_items.proofs.Turns.{text_told}
+use Rattle.plain_stream.proofs.Telling.{telling_long, telling_small, telling_beyond, telling_over, text_less, walking_first, walking_depth, walking_zero, walking_text, deed_long, deed_seed, deed_less, walking_deed}
 use native.Mathlib.Omega.{arith}
 use borrow.Author.Rules.{rules}
 use Rattle.plain_stream.proofs.write_stream.Goals as goal
 
 pub loop-end-init : goal.loop-end-init
-loop-end-init c = (c.requires.0, c.requires.1, walking_first _ _ _ _ _ _ c.requires.0 c.afresh-t.ensures c.pen_of-pen.ensures)
+loop-end-init c = walking_first _ _ _ _ _ _ c.requires.0 c.afresh-t.ensures c.pen_of-pen.ensures
 
 pub shape_of-room-then-most-end : goal.shape_of-room-then-most-end
-shape_of-room-then-most-end c = telling_long _ _ _ _ _ _ _ _ c.loop-end.invariant.2.telling
+shape_of-room-then-most-end c = telling_long _ _ _ _ _ _ _ _ c.loop-end.invariant.telling
 
 pub returns-then-most-end : goal.returns-then-most-end
-returns-then-most-end c = telling_beyond _ c.loop-end.invariant.0 _ _ _ _ _ _ _ c.loop-end.invariant.2.telling c.if-most-end.true
-
-pub bounds-s-at : goal.bounds-s-at
-bounds-s-at c = (text_told c.args.s.now c.loop-end.at c.loop-end.sequence _ c.text_next.ensures c.if-text_next.true).inside
+returns-then-most-end c = telling_beyond _ c.requires.0 _ _ _ _ _ _ _ c.loop-end.invariant.telling c.if-most-end.true
 
 pub write_one-end-requires : goal.write_one-end-requires
-write_one-end-requires c = omega (arith, telling_small _ c.loop-end.invariant.0 _ _ _ _ _ _ _ c.loop-end.invariant.2.telling c.loop-end.invariant.1)
+write_one-end-requires c = omega (arith, telling_small _ c.requires.0 _ _ _ _ _ _ _ c.loop-end.invariant.telling c.requires.1)
 
 pub loop-end-smaller-then-text_next : goal.loop-end-smaller-then-text_next
 loop-end-smaller-then-text_next c = text_less c.args.s.now c.loop-end.at c.loop-end.sequence _ c.text_next.ensures c.if-text_next.true
 
 pub loop-end-preserved-then-text_next : goal.loop-end-preserved-then-text_next
-loop-end-preserved-then-text_next c = (c.loop-end.invariant.0, c.loop-end.invariant.1, walking_text _ c.loop-end.invariant.0 _ _ _ _ _ _ _ _ _ _ c.loop-end.invariant.2 _ _ _ c.if-most-end.false c.text_next.ensures c.if-text_next.true c.write_one-end.ensures)
+loop-end-preserved-then-text_next c = walking_text _ c.requires.0 _ _ _ _ _ _ _ _ _ _ c.loop-end.invariant _ _ _ c.if-most-end.false c.text_next.ensures c.if-text_next.true c.write_one-end.ensures
 
 pub shape_of-room-then-is_over : goal.shape_of-room-then-is_over
-shape_of-room-then-is_over c = telling_long _ _ _ _ _ _ _ _ c.loop-end.invariant.2.telling
+shape_of-room-then-is_over c = telling_long _ _ _ _ _ _ _ _ c.loop-end.invariant.telling
 
 pub returns-then-is_over : goal.returns-then-is_over
-returns-then-is_over c = telling_over _ c.loop-end.invariant.0 _ _ _ _ _ _ _ c.loop-end.invariant.2.telling _ c.is_over.ensures c.if-is_over.true
+returns-then-is_over c = telling_over _ c.requires.0 _ _ _ _ _ _ _ c.loop-end.invariant.telling _ c.is_over.ensures c.if-is_over.true
 
 pub do_item-d-requires : goal.do_item-d-requires
 do_item-d-requires c = record {
-  bounded = ((c.loop-end.invariant.0.wide, c.loop-end.invariant.0.high), walking_depth _ c.loop-end.invariant.0 _ _ _ _ _ _ _ _ _ _ c.loop-end.invariant.2, walking_zero _ c.loop-end.invariant.0 _ _ _ _ _ _ _ _ _ _ c.loop-end.invariant.2, walking_long _ c.loop-end.invariant.0 _ _ _ _ _ _ _ _ _ _ c.loop-end.invariant.2);
-  i_bound = (c.read_item-r.ensures.ordered, omega (arith, c.read_item-r.ensures.ended, c.read_item-r.ensures.inside, c.loop-end.invariant.2.telling.inside));
+  bounded = (walking_depth _ c.requires.0 _ _ _ _ _ _ _ _ _ _ c.loop-end.invariant, walking_zero _ c.requires.0 _ _ _ _ _ _ _ _ _ _ c.loop-end.invariant);
+  i_bound = (c.read_item-r.ensures.ordered, omega (arith, c.read_item-r.ensures.ended, c.read_item-r.ensures.inside, c.loop-end.invariant.telling.inside));
 }
 
 pub slice_bounds-write_done-end : goal.slice_bounds-write_done-end
-slice_bounds-write_done-end c = let z = deed_long _ c.loop-end.invariant.0 _ _ _ _ _ _ _ _ _ _ c.loop-end.invariant.2 _ c.is_over.ensures c.if-is_over.false _ _ _ _ _ c.read_item-r.ensures c.do_item-d.ensures in search rules
+slice_bounds-write_done-end c = let z = deed_long _ c.requires.0 _ _ _ _ _ _ _ _ _ _ c.loop-end.invariant _ c.is_over.ensures c.if-is_over.false _ _ _ _ _ c.read_item-r.ensures c.do_item-d.ensures in search rules
 
 pub write_done-end-requires : goal.write_done-end-requires
-write_done-end-requires c = (c.read_item-r.ensures.ordered, omega (arith, c.read_item-r.ensures.ended, c.read_item-r.ensures.inside, c.loop-end.invariant.2.telling.inside), c.read_item-r.ensures.counted, c.loop-end.invariant.0.wide, deed_seed _ c.loop-end.invariant.0 _ _ _ _ _ _ _ _ _ _ c.loop-end.invariant.2 _ c.is_over.ensures c.if-is_over.false _ _ _ _ _ c.read_item-r.ensures c.do_item-d.ensures, telling_small _ c.loop-end.invariant.0 _ _ _ _ _ _ _ c.loop-end.invariant.2.telling c.loop-end.invariant.1)
+write_done-end-requires c = rw c.wide.ensures (c.read_item-r.ensures.ordered, omega (arith, c.read_item-r.ensures.ended, c.read_item-r.ensures.inside, c.loop-end.invariant.telling.inside), c.read_item-r.ensures.counted, c.requires.0.wide, deed_seed _ c.requires.0 _ _ _ _ _ _ _ _ _ _ c.loop-end.invariant _ c.is_over.ensures c.if-is_over.false _ _ _ _ _ c.read_item-r.ensures c.do_item-d.ensures, telling_small _ c.requires.0 _ _ _ _ _ _ _ c.loop-end.invariant.telling c.requires.1)
 
 pub loop-end-smaller : goal.loop-end-smaller
-loop-end-smaller c = deed_less _ c.loop-end.invariant.0 _ _ _ _ _ _ _ _ _ _ c.loop-end.invariant.2 _ c.is_over.ensures c.if-is_over.false _ _ _ _ _ c.read_item-r.ensures c.do_item-d.ensures
+loop-end-smaller c = deed_less _ c.requires.0 _ _ _ _ _ _ _ _ _ _ c.loop-end.invariant _ c.is_over.ensures c.if-is_over.false _ _ _ _ _ c.read_item-r.ensures c.do_item-d.ensures
 
 pub loop-end-preserved : goal.loop-end-preserved
-loop-end-preserved c = (c.loop-end.invariant.0, c.loop-end.invariant.1, walking_deed _ c.loop-end.invariant.0 _ _ _ _ _ _ _ _ _ _ c.loop-end.invariant.2 _ c.is_over.ensures c.if-is_over.false _ _ _ _ _ c.read_item-r.ensures c.do_item-d.ensures c.if-most-end.false c.do_item-d.new.page _ _ c.room-in-loop-end-1.given.0 c.write_done-end.ensures)
+loop-end-preserved c = walking_deed _ c.requires.0 _ _ _ _ _ _ _ _ _ _ c.loop-end.invariant _ c.is_over.ensures c.if-is_over.false _ _ _ _ _ c.read_item-r.ensures c.do_item-d.ensures c.if-most-end.false c.do_item-d.new.page _ _ c.room-in-loop-end-1.given.0 (rw c.wide.ensures at c.write_done-end.ensures)

@@ -1,17 +1,15 @@
 -- `read_item::afresh_at` meets its contract. Assumes nothing.
-use borrow.Author.Rules.{rules}
-use Rattle.common.proofs.Places.{at_cons₁}
-use Rattle.common.proofs.Choices.{hit}
-use Rattle.rules.specs.Items.{read}
-use Rattle.read_item.proofs.Items.{gives, afresh_text, afresh_code}
+use native.Mathlib.Omega.{arith}
+use Rattle.read_item.proofs.Items.{afresh_escape, afresh_text, afresh_code}
+use Rattle.read_item.proofs.afresh_at.Goals.{then-is_text, else-is_text}
 use Rattle.read_item.proofs.afresh_at.Goals as goal
 
-pub returns-in-27 : goal.returns-in-27
-unfolding read
-returns-in-27 c = (search (gives, at_cons₁ read, hit, rules) depth 12, search rules)
+pub returns-then-b-eq-ESC : goal.returns-then-b-eq-ESC
+returns-then-b-eq-ESC c = afresh_escape c.args.s.now c.args.at c.escape_at.result c.requires c.if-b-eq-ESC.true c.escape_at.ensures
 
-pub returns-then-is_text : goal.returns-then-is_text
-returns-then-is_text c = (search (afresh_text, rules), search rules)
-
-pub returns-else-is_text : goal.returns-else-is_text
-returns-else-is_text c = (search (afresh_code, rules), search rules)
+pub returns : goal.returns
+returns c =
+    elim c.if-is_text.branch [
+      | then-is_text w ↦ (rw w.item-is (afresh_text _ _ c.requires c.if-b-eq-ESC.false _ c.is_text.ensures w.if-is_text.true), omega arith)
+      | else-is_text w ↦ (rw w.item-is (afresh_code _ _ c.requires c.if-b-eq-ESC.false _ c.is_text.ensures w.if-is_text.false), omega arith)
+    ]

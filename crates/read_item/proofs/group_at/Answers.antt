@@ -1,24 +1,24 @@
 -- `read_item::group_at` meets its contract. Assumes nothing.
 use native.Mathlib.Omega.{arith}
 use borrow.Author.Rules.{rules}
-use Rattle.common.proofs.Places.{at_cons₁, at_end₁}
-use Rattle.common.proofs.Choices.{in_cond, under_cond, over_cond}
-use Rattle.rules.specs.Items.{group}
-use Rattle.read_item.proofs.Items.{gives, parameter_cut}
+use Rattle.read_number.proofs.Reading.{got, got_none}
+use Rattle.read_item.proofs.Items.{group_end, group_in, group_under, group_over}
 use Rattle.read_item.proofs.group_at.Goals as goal
 
-pub returns-then-s-at : goal.returns-then-s-at
-unfolding group
-returns-then-s-at c = (search (gives, parameter_cut, at_cons₁ group, at_end₁ group, in_cond, under_cond, over_cond, rules) depth 9, omega arith)
+pub returns-in_default : goal.returns-in_default
+returns-in_default c = (group_end _ _ _ _ (got_none _ _ c.in_default.ensures.lookup) c.ends_inside.ensures, omega arith)
 
 pub returns-in-96-to-126 : goal.returns-in-96-to-126
-unfolding group
-returns-in-96-to-126 c = (search (gives, parameter_cut, at_cons₁ group, at_end₁ group, in_cond, under_cond, over_cond, rules) depth 9, search rules)
+returns-in-96-to-126 c =
+    let g = got _ _ c.in-Some.field-0 c.in-Some.ensures.lookup in
+    (search (group_in c.args.s.now c.args.at c.in-Some.field-0.now g.0 g.1, rules), omega (arith, g.0))
 
-pub returns-in_default : goal.returns-in_default
-unfolding group
-returns-in_default c = (search (gives, parameter_cut, at_cons₁ group, at_end₁ group, in_cond, under_cond, over_cond, rules) depth 9, search rules)
+pub returns-in_default-b : goal.returns-in_default-b
+returns-in_default-b c =
+    let g = got _ _ c.in-Some.field-0 c.in-Some.ensures.lookup in
+    (search (group_under c.args.s.now c.args.at c.in-Some.field-0.now g.0 g.1, group_over c.args.s.now c.args.at c.in-Some.field-0.now g.0 g.1, rules), omega (arith, g.0))
 
-pub returns-in_default-2 : goal.returns-in_default-2
-unfolding group
-returns-in_default-2 c = (search (gives, parameter_cut, at_cons₁ group, at_end₁ group, in_cond, under_cond, over_cond, rules) depth 9, search rules)
+pub returns-in_default-b-2 : goal.returns-in_default-b-2
+returns-in_default-b-2 c =
+    let g = got _ _ c.in-Some.field-0 c.in-Some.ensures.lookup in
+    (search (group_under c.args.s.now c.args.at c.in-Some.field-0.now g.0 g.1, group_over c.args.s.now c.args.at c.in-Some.field-0.now g.0 g.1, rules), omega (arith, g.0))

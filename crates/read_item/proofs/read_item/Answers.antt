@@ -1,13 +1,10 @@
 -- `read_item::read_item` meets its contract. Assumes nothing.
 use borrow.Author.Rules.{rules}
-use Rattle.read_item.proofs.Places.{item_none, item_whole, item_valued, value_inside}
+use Rattle.read_item.proofs.Places.{item_none, item_whole, item_valued}
 use Rattle.read_item.proofs.read_item.Goals as goal
 
 pub returns-then-s-at : goal.returns-then-s-at
 returns-then-s-at c = search (item_none, rules)
-
-pub parameter_at-requires : goal.parameter_at-requires
-parameter_at-requires c = search (value_inside, rules)
 
 pub returns-in-Read : goal.returns-in-Read
 returns-in-Read c = search (item_whole, rules)

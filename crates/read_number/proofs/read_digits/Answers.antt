@@ -1,16 +1,17 @@
--- `read_number::read_digits` meets its contract. The loop's invariant: what is left, behind the number so far, makes the whole number; the measure is what is left. Assumes nothing.
-use borrow.Author.Rules.{rules}
-use Rattle.read_number.proofs.Reading.{counting_again, counting_stop, counting_end, digit_under, digit_over}
+-- `read_number::read_digits` meets its contract: a digit, another byte, or the end. Assumes nothing.
+use mathlib.Core.Path.{refl, sym, ◌∙◌}
+use native.Mathlib.Omega.{arith}
+use lib.ListN.{get_or}
+use Rattle.read_number.proofs.Reading.{counting_again, counting_stop, counting_end}
 use Rattle.read_number.proofs.read_digits.Goals as goal
 
 pub loop-i-preserved : goal.loop-i-preserved
-loop-i-preserved c = search (counting_again, rules)
+loop-i-preserved c =
+    counting_again _ _ _ _ c.loop-i.invariant _ (get_or c.args.s.now c.loop-i.i 0) c.loop-i-test.true refl c.if-is_ascii_digit.ensures.cases.0 (omega (arith, c.if-is_ascii_digit.ensures.cases.1)) c.one_more-n.ensures
+
+pub returns-else-is_ascii_digit : goal.returns-else-is_ascii_digit
+returns-else-is_ascii_digit c =
+    counting_stop _ _ _ _ c.loop-i.invariant (get_or c.args.s.now c.loop-i.i 0) c.loop-i-test.true refl (sym c.is_ascii_digit.ensures.value ∙ c.if-is_ascii_digit.false)
 
 pub returns-after-loop-i : goal.returns-after-loop-i
-returns-after-loop-i c = search (counting_end, rules)
-
-pub returns-in_default : goal.returns-in_default
-returns-in_default c = search (counting_stop, digit_under, rules)
-
-pub returns-in_default-2 : goal.returns-in_default-2
-returns-in_default-2 c = search (counting_stop, digit_over, rules)
+returns-after-loop-i c = counting_end _ _ _ _ c.loop-i.invariant c.loop-i-test.false

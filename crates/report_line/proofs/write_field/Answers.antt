@@ -1,7 +1,6 @@
--- `report_line::write_field` meets its contract. Assumes nothing.
-use borrow.Author.Rules.{rules}
-use Rattle.report_line.proofs.Pieces.{wrote_field}
+-- A field is a tab and its number.
+use Rattle.common.proofs.Writing.{written_both}
 use Rattle.report_line.proofs.write_field.Goals as goal
 
 pub returns : goal.returns
-returns c = search (wrote_field, rules)
+returns c = written_both c.put.ensures c.write_decimal.ensures

@@ -3,14 +3,14 @@ use borrow.Author.Rules.{rules}
 use Rattle.row_change.proofs.Changes.{changing_none, changing_more, changing_past, changing_end}
 use Rattle.row_change.proofs.change.Goals as goal
 
-pub loop-i-init : goal.loop-i-init
-loop-i-init c = search (changing_none, rules)
+pub loop-p-init : goal.loop-p-init
+loop-p-init c = search (changing_none, rules)
 
-pub returns-then-row-at : goal.returns-then-row-at
-returns-then-row-at c = search (changing_past, rules)
+pub loop-p-preserved : goal.loop-p-preserved
+loop-p-preserved c = search (changing_more, rules)
 
-pub loop-i-preserved : goal.loop-i-preserved
-loop-i-preserved c = search (changing_more, rules)
+pub returns-else-p-row : goal.returns-else-p-row
+returns-else-p-row c = search (changing_past, rules)
 
-pub returns : goal.returns
-returns c = search (changing_end, rules)
+pub returns-after-loop-p : goal.returns-after-loop-p
+returns-after-loop-p c = search (changing_end, rules)

@@ -6,5 +6,5 @@ use Rattle.row_control.proofs.look.Goals as goal
 pub returns-then-method-eq1 : goal.returns-then-method-eq1
 returns-then-method-eq1 c = search (look_pairs, rules)
 
-pub returns : goal.returns
-returns c = search (look_all, rules)
+pub returns-else-method-eq1 : goal.returns-else-method-eq1
+returns-else-method-eq1 c = search (look_all, rules)

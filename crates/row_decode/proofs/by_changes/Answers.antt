@@ -3,8 +3,8 @@ use borrow.Author.Rules.{rules}
 use Rattle.row_decode.proofs.Rows.{whole_row, damaged_row}
 use Rattle.row_decode.proofs.by_changes.Goals as goal
 
-pub returns-then-look : goal.returns-then-look
-returns-then-look c = search (whole_row, rules)
+pub returns-then-not-look : goal.returns-then-not-look
+returns-then-not-look c = search (damaged_row, rules)
 
-pub returns-else-look : goal.returns-else-look
-returns-else-look c = search (damaged_row, rules)
+pub returns : goal.returns
+returns c = search (whole_row, rules)

@@ -3,8 +3,8 @@ use borrow.Author.Rules.{rules}
 use Rattle.row_decode.proofs.Rows.{once_whole, once_damaged}
 use Rattle.row_decode.proofs.by_packed.Goals as goal
 
-pub returns-then-look_from : goal.returns-then-look_from
-returns-then-look_from c = search (once_whole, rules)
+pub returns-then-not-look_from : goal.returns-then-not-look_from
+returns-then-not-look_from c = search (once_damaged, rules)
 
-pub returns-else-look_from : goal.returns-else-look_from
-returns-else-look_from c = search (once_damaged, rules)
+pub returns : goal.returns
+returns c = search (once_whole, rules)

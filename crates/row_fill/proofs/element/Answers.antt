@@ -9,8 +9,8 @@ returns-then-method-eq1 c = search (pair_on, rules)
 pub returns-then-c-lt128 : goal.returns-then-c-lt128
 returns-then-c-lt128 c = search (literal_on, rules)
 
-pub returns-then-c-eq128 : goal.returns-then-c-eq128
-returns-then-c-eq128 c = search (nothing_on, rules)
+pub returns-then-c : goal.returns-then-c
+returns-then-c c = search (nothing_on, rules)
 
 pub returns : goal.returns
 returns c = search (run_on, rules)

@@ -4,8 +4,8 @@ use lib.ListN.{length}
 use Rattle.row_fill.proofs.Filling.{Filling}
 use Rattle.row_fill.proofs.fill_row.Given as goal
 
-abbrev pub invariant-loop-i : goal.invariant-loop-i
-invariant-loop-i l = Filling l.method l.s l.initial.row l.row l.i l.at
+abbrev pub invariant-loop-p : goal.invariant-loop-p
+invariant-loop-p l = Filling l.method l.s l.initial.row l.row l.p.from l.p.at
 
-abbrev pub decreases-loop-i : goal.decreases-loop-i
-decreases-loop-i l = length l.s - l.i
+abbrev pub decreases-loop-p : goal.decreases-loop-p
+decreases-loop-p l = length l.s - l.p.from

@@ -3,8 +3,8 @@ use borrow.Author.Rules.{rules}
 use Rattle.row_fill.proofs.Filling.{run_none, run_some}
 use Rattle.row_fill.proofs.run.Goals as goal
 
-pub returns-then-s-i : goal.returns-then-s-i
-returns-then-s-i c = search (run_none, rules)
+pub returns-then-p-s : goal.returns-then-p-s
+returns-then-p-s c = search (run_some, rules)
 
 pub returns : goal.returns
-returns c = search (run_some, rules)
+returns c = search (run_none, rules)

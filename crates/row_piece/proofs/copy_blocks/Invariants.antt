@@ -1,4 +1,4 @@
--- `row_piece::copy_blocks` meets its contract: k of the bytes are copied. Assumes nothing.
+-- `row_piece::copy_blocks` meets its contract: the loop's invariant: k of the bytes are copied. Assumes nothing.
 use Prim.Native.Nat.{◌-◌}
 use Rattle.row_piece.proofs.Texts.{Blocks}
 use Rattle.row_piece.proofs.copy_blocks.Given as goal

@@ -3,8 +3,5 @@ use borrow.Author.Rules.{rules}
 use Rattle.row_piece.proofs.Texts.{over_just}
 use Rattle.row_piece.proofs.copy_over.Goals as goal
 
-pub returns-then-row-at : goal.returns-then-row-at
-returns-then-row-at c = search (over_just, rules)
-
 pub returns-then-s-i : goal.returns-then-s-i
 returns-then-s-i c = search (over_just, rules)

@@ -1,4 +1,4 @@
--- `row_piece::fill` meets its contract: the loop's invariant: k of the places that there are are filled. The measure is how many are left. Assumes nothing.
+-- `row_piece::fill` meets its contract: the loop's invariant: k of the places that there are are filled. Assumes nothing.
 use borrow.Author.Rules.{rules}
 use Rattle.row_piece.proofs.Clips.{filling_none, filling_more, filling_end}
 use Rattle.row_piece.proofs.fill.Goals as goal

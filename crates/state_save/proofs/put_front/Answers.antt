@@ -1,6 +1,8 @@
--- `state_save::put_front` meets its contract. Assumes nothing.
-use Rattle.state_save.proofs.Puts.{wrote_front, wrote_inside}
+-- `state_save::put_front` meets its contract: each part behind the one before. Assumes nothing.
+use Rattle.common.proofs.Writing.{written_both}
+use Rattle.state_load.specs.Kept.{front_bytes}
 use Rattle.state_save.proofs.put_front.Goals as goal
 
 pub returns : goal.returns
-returns c = let w = wrote_front _ c.put_spot-lengths.ensures c.put_lengths-others.ensures c.put_modes-flags.ensures c.put_flags-first.ensures c.put_sequence-depth.ensures c.put_depth.ensures in (w, wrote_inside w)
+unfolding front_bytes
+returns c = written_both c.put_spot.ensures (written_both c.put_lengths.ensures (written_both c.put_modes.ensures (written_both c.put_flags.ensures (written_both c.put_sequence.ensures c.put_depth.ensures))))

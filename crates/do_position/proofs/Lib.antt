@@ -1,2 +1,0 @@
-pub mod Small
-pub mod Positions

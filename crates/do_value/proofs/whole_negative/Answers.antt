@@ -1,7 +1,0 @@
--- `do_value::whole_negative` meets its contract. Assumes nothing.
-use Rattle.rules.specs.Commands.{is_negative}
-use Rattle.do_value.proofs.whole_negative.Goals as goal
-
-pub returns : goal.returns
-unfolding is_negative
-returns c = cc

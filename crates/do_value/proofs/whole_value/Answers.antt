@@ -1,7 +1,0 @@
--- `do_value::whole_value` meets its contract. Assumes nothing.
-use Rattle.rules.specs.Commands.{used_value}
-use Rattle.do_value.proofs.whole_value.Goals as goal
-
-pub returns : goal.returns
-unfolding used_value
-returns c = cc

@@ -1,2 +1,0 @@
--- The laws of the command choice.
-pub mod Choosing

@@ -1,2 +1,0 @@
--- The laws of this crate.
-pub mod Fresh

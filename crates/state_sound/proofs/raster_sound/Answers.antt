@@ -1,9 +1,0 @@
--- `state_sound::raster_sound` meets its contract. Assumes nothing.
-use Rattle.state_page.proofs.Flags.{both_of}
-use Rattle.rules.specs.Sound.{raster_sound}
-use borrow.Author.Rules.{rules}
-use Rattle.state_sound.proofs.raster_sound.Goals as goal
-
-pub returns : goal.returns
-unfolding raster_sound
-returns c = search (both_of, rules) depth 12
