@@ -43,7 +43,7 @@ import trace  # tests/trace.py
 from trace import ROOT, found, text
 
 LEAST = {"function": 75, "edit": 200, "path": 200, "word": 12, "definition": 130, "crate": 5, "name": 850, "link": 140, "heading": 5, "row": 95,
-         "asking": 20, "count": 18, "date": 12, "change": 1, "replaced": 200}
+         "asking": 25, "count": 18, "date": 12, "change": 1, "replaced": 200}
 ENDINGS = ".antt .c .edit .h .html .lock .md .pbm .pcl .png .py .rs .rt .sh .toml .tsv .txt .xz".split()
 ANY = ("NAME", "CRATE", "FILE")
 FORMS = {"crate::name", "rovinuset::name", "file::name", "File: name"}  # what the documents call the forms of names themselves
@@ -88,13 +88,13 @@ def sources(crate):
 
 @functools.lru_cache(None)
 def public(crate):
-    """The public functions of a crate."""
-    return set(re.findall(r'^pub (?:extern "C" )?fn (\w+)', sources(crate), re.M))
+    """The public functions of a crate, and its types' public methods."""
+    return set(re.findall(r'^(?:    )?pub (?:extern "C" )?fn (\w+)', sources(crate), re.M))
 
 
 def asking(crate):
     """The public functions of a crate that ask something of their caller."""
-    return set(re.findall(r'^pub (?:extern "C" )?fn (\w+)(?:(?!\n\{|\nfn |\npub ).)*?\n\s+requires\b', sources(crate), re.M | re.S))
+    return set(re.findall(r'^(?:    )?pub (?:extern "C" )?fn (\w+)(?:(?!\n(?:    )?(?:\{|fn |pub )).)*?\n\s+requires\b', sources(crate), re.M | re.S))
 
 
 def of_source(source):

@@ -1,17 +1,22 @@
 // A room that is lent, written byte after byte.
-ghost use Rattle.std.specs.Prelude.{◌≤◌, length};
 
-// A room, and the place in it where the next byte goes. What has no room is not written.
+// A room, and the place in it where the next byte goes. What has no room is not written: a place beyond the room is as good as its end.
 #[derive(Drop)]
 pub struct Writer<'a> {
     pub room: &'a mut [u8],
     pub at: usize,
-    ghost inside: { at ≤ length room.now },
 }
 
 impl<'a> Writer<'a> {
     ghost use Rattle.std.specs.Prelude.{[], ◌∷◌};
     ghost use Rattle.common.specs.Writing.{Written};
+
+    // Nothing is written; but a place beyond the room becomes its end, as behind whatever is written.
+    pub fn settle(&mut self)
+        ensures { Written self.old [] self.new }
+    {
+        self.at = self.at.min(self.room.len());
+    }
 
     // One byte.
     pub fn put(&mut self, b: u8)
@@ -20,6 +25,8 @@ impl<'a> Writer<'a> {
         if self.at < self.room.len() {
             self.room[self.at] = b;
             self.at += 1;
+        } else {
+            self.at = self.room.len();
         }
     }
 
@@ -27,6 +34,7 @@ impl<'a> Writer<'a> {
     pub fn put_all(&mut self, bytes: &[u8])
         ensures { Written self.old bytes.now self.new }
     {
+        self.settle();
         for b in bytes {
             self.put(*b);
         }

@@ -55,7 +55,7 @@ unfolding started_at
 seed_now_lem w c h = choice (λ (d : Core). all_zero (drop w d.seed) ≡ true) c.raster.started h (drop_zeros w 600)
 
 -- a seed row that is zeroed or kept is as long as it was
-kept_long : (t : Bool) (l s : List ℕ) → length l ≡ 600 → s ≡ cond t l zero_seed → length s ≡ 600
+pub kept_long : (t : Bool) (l s : List ℕ) → length l ≡ 600 → s ≡ cond t l zero_seed → length s ≡ 600
 kept_long t l s h e = rw e (choice (λ (k : List ℕ). length k ≡ 600) t h (length-replicate {A = ℕ} 600 0))
 
 module _ (g : Measure) (v : Value) (p : List ℕ) (c : Core) (m : Beside) where

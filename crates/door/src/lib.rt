@@ -9,11 +9,12 @@ ghost use Rattle.rules.specs.Given.{verdict_of};
 ghost use Rattle.rules.specs.Measure.{allowed, measure_of, page_bytes};
 ghost use Rattle.rules.specs.Findings.{verdict_number};
 ghost use Rattle.rules.specs.Sound.{sound};
-ghost use Rattle.state_load.specs.Kept.{state_at};
+ghost use Rattle.std.proofs.lemmas.List.Edits.{sets};
+ghost use Rattle.state_load.specs.Kept.{state_at, state_bytes};
 ghost use Rattle.door.specs.Answers.{MadeAfresh, Answered, length_told, ToldPlain, ToldParked, ToldUnparked};
 
 use number_finding::{finding_number, refusal_number};
-use rules::Refusal;
+use rules::{Refusal, State};
 use state_afresh::afresh;
 use state_load::{STATE_BYTES, read_state};
 use state_page::page_of;
@@ -61,6 +62,13 @@ pub extern "C" fn rov_dots(w: usize, h: usize, page: &[u8]) -> usize
     dot_page::count(&page[..n])
 }
 
+// A state, written into the caller's bytes. A function of its own, so that the copy that is handed on takes no room on the stack while a run goes on.
+fn keep(t: &State, state: &mut [u8])
+    ensures { state.new ≡ sets state.old 0 (state_bytes t.now) }
+{
+    write_state(*t, state);
+}
+
 // At most `allowance` items of the stream, from *place on. The page is the caller's between calls, so none of its bytes are known to be zero.
 #[unsafe(no_mangle)]
 pub extern "C" fn rov_run(
@@ -87,7 +95,7 @@ pub extern "C" fn rov_run(
             *finding = finding_number(o.finding);
             *found = o.found;
             *ended = usize::from(o.ended);
-            write_state(o.state, state);
+            keep(&o.state, state);
             0
         }
         Err(why) => {
@@ -152,14 +160,16 @@ pub extern "C" fn rov_park(
 pub extern "C" fn rov_unpark(text: &[u8], w: &mut usize, h: &mut usize, state: &mut [u8]) -> u32
     ensures { ToldUnparked text.now w.old h.old state.old result w.new h.new state.new }
 {
-    match unpark_read::unpark(text) {
+    // looked at where it lies: what is taken out of a Result is copied
+    let held = unpark_read::unpark(text);
+    match &held {
         Ok(_) if state.len() < STATE_BYTES => refusal_number(Refusal::UnsoundState),
         Ok(u) => {
             *w = u.wide;
             *h = u.high;
-            write_state(u.state, state);
+            keep(&u.state, state);
             0
         }
-        Err(why) => refusal_number(why),
+        Err(why) => refusal_number(*why),
     }
 }

@@ -1,8 +1,14 @@
 -- What is made of the answers of `read`. Which bytes come, no contract can say.
-use Rattle.std.specs.Prelude.{◌≡◌, ℕ, ◌+◌, ◌≤◌, ◌<◌, List, length, take, replicate, Option, Result, Ok, Err}
+use Rattle.std.specs.Prelude.{◌≡◌, ℕ, zero, suc, ◌+◌, ◌≤◌, ◌<◌, List, length, take, replicate, Option, None, Some, Result, Ok, Err}
 use Rattle.std.specs.declared.io.Error.{Error}
 use Rattle.std.specs.Io.KnownBytes.{IsAtEnd}
 use Rattle.rules.specs.Measure.{longest_stream}
+
+-- an error is a failure and never the end; 0 is the end; any other counts the bytes that came
+abbrev pub read_said : Result ℕ Error → Result (Option ℕ) Error
+read_said (Ok zero) = Ok None
+read_said (Ok (suc k)) = Ok (Some (suc k))
+read_said (Err e) = Err e
 
 -- the job's bytes are the first ones of their place
 abbrev pub Within : Result ℕ Error → List ℕ → Type 0

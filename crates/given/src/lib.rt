@@ -5,7 +5,7 @@
 ghost use Rattle.std.specs.Prelude.{◌≡◌, length};
 ghost use Rattle.std.specs.Fn.{FnOnceReturnsAt};
 ghost use Rattle.given.specs.Words.{ReadBy, Spelt, SpeltItems};
-ghost use Rattle.given.specs.Reads.{Within, Whole, no_job, no_page};
+ghost use Rattle.given.specs.Reads.{read_said, Within, Whole, no_job, no_page};
 
 use rules::LONGEST_STREAM;
 use std::env::FillError;
@@ -62,6 +62,17 @@ pub fn largest_page() -> [u8; 4080000]
     [0u8; 4080000]
 }
 
+// What the answer of a read means: so many bytes came, or none where the job is over; or that the read failed.
+fn said_by(got: io::Result<usize>) -> io::Result<Option<usize>>
+    ensures { result ≡ read_said got }
+{
+    match got {
+        Ok(0) => Ok(None),
+        Ok(n) => Ok(Some(n)),
+        Err(why) => Err(why),
+    }
+}
+
 // Reads the job to its end, or until the place for it is full: how many bytes came. A read that fails, or is interrupted, ends the reading.
 pub fn read_job<R: Read>(from: &mut R, input: &mut [u8]) -> io::Result<usize>
     ensures within { Within result input.new }
@@ -69,10 +80,9 @@ pub fn read_job<R: Read>(from: &mut R, input: &mut [u8]) -> io::Result<usize>
 {
     let mut done = 0;
     while done < input.len() {
-        let n = from.read(&mut input[done..])?;
-        if n == 0 {
+        let Some(n) = said_by(from.read(&mut input[done..]))? else {
             break;
-        }
+        };
         done += n;
     }
     Ok(done)

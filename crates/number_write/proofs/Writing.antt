@@ -3,7 +3,7 @@ use Rattle.std.proofs.Common.{◌≡◌, refl, ap, ◌∙◌, ℕ, zero, suc, �
 use Rattle.std.proofs.lemmas.List.{drop-set}
 use Rattle.common.specs.declared.writer.Writer.{Writer}
 use Rattle.common.specs.Writing.{Written}
-use Rattle.common.proofs.Writing.{written_none, written_both}
+use Rattle.common.proofs.Writing.{written_none, written_inside, written_both}
 use Rattle.rules.specs.Plain.{decimal_up_to, decimal, places_up_to, put_size}
 use Rattle.number_write.proofs.Laws.{decimal_append, upto_last}
 use Rattle.number_write.proofs.Places.{weights, places_from, Low, places_none, places_some, low_behind, low_end}
@@ -63,19 +63,19 @@ pub record Leaving (before : Writer) (n : ℕ) (now : Writer) (left k : ℕ) : T
   pub done : left ≡ 0 → Written before (places_up_to 4 1000 n []) now
 
 -- where nothing is left they are
-leaving : {before now : Writer} {n left k : ℕ} → k ≤ 4 → Low k left → ((after : Writer) → Written now (places_from k left) after → Written before (places_up_to 4 1000 n []) after)
+leaving : {before now : Writer} {n left k : ℕ} → now.at ≤ length now.room.now → k ≤ 4 → Low k left → ((after : Writer) → Written now (places_from k left) after → Written before (places_up_to 4 1000 n []) after)
     → Leaving before n now left k
-leaving {now = now} {left = left} {k = k} h l f = record { low = l; ends = f; done = λ e. f now (rw (places_none k left h e) (written_none now)) }
+leaving {now = now} {left = left} {k = k} i h l f = record { low = l; ends = f; done = λ e. f now (rw (places_none k left h e) (written_none now i)) }
 
 -- none is written yet
-pub leaving_start : (before : Writer) (n : ℕ) → n < 10000 → Leaving before n before n 0
-leaving_start before n h = leaving (omega arith) h (λ after w. w)
+pub leaving_start : (before : Writer) (n : ℕ) → n < 10000 → before.at ≤ length before.room.now → Leaving before n before n 0
+leaving_start before n h i = leaving i (omega arith) h (λ after w. w)
 
 module _ {before now : Writer} {n left k : ℕ} (inv : Leaving before n now left k) where
   -- one more place
   pub leaving_again : {next : Writer} {b : ℕ} → k < 4 → (left ≡ 0 → ⊥) → b ≡ 48 + left / get_or weights k 0 → Written now (b ∷ []) next
       → Leaving before n next (left % get_or weights k 0) (k + 1)
-  leaving_again h z d w = leaving (omega arith) (low_behind k left h) (λ after v. inv.ends after (rw (places_some k left h z, ← d) (written_both w v)))
+  leaving_again h z d w = leaving (written_inside w) (omega arith) (low_behind k left h) (λ after v. inv.ends after (rw (places_some k left h z, ← d) (written_both w v)))
 
   -- no place is left
   pub leaving_end : 4 ≤ k → k ≤ 4 → Written before (places_up_to 4 1000 n []) now

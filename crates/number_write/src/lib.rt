@@ -2,7 +2,7 @@
 // Nothing is refused: what has no room is not written.
 #![tactic(auto)]
 
-ghost use Rattle.std.specs.Prelude.{◌≡◌, cond, [], ◌+◌, ◌*◌, ◌/◌, ◌≤◌, ◌<◌, drop};
+ghost use Rattle.std.specs.Prelude.{◌≡◌, cond, [], ◌+◌, ◌*◌, ◌/◌, ◌≤◌, ◌<◌, length, drop};
 ghost use Rattle.common.specs.Writing.{Written};
 ghost use Rattle.rules.specs.Plain.{decimal, places_up_to, put_size, put_value};
 
@@ -44,7 +44,7 @@ fn first_place(n: u32, weight: u32) -> u8
 
 // The places behind a point, with no trailing zeros: none where nothing is left.
 fn write_places(n: u32, out: &mut Writer)
-    requires { n < 10000 }
+    requires { (n < 10000) × (out.old.at ≤ length out.old.room.now) }
     ensures { Written out.old (places_up_to 4 1000 n []) out.new }
 {
     let mut left = n;

@@ -5,3 +5,4 @@ pub mod Pages
 pub mod Refusals
 pub mod Whole
 pub mod Stepping
+pub mod Told

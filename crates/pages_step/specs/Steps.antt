@@ -98,6 +98,10 @@ OneStep = (W H : ℕ) (page s : List ℕ) (t : State) (place number findings : �
     → Stepped W H page s t place number findings room r page' room' → Stepped W H page s t place number findings room r' page'' room''
     → (r ≡ r') × (page' ≡ page'') × (room' ≡ room'')
 
+-- and so are two answers of a program that are said to be one (`step_sheet`)
+abbrev pub OneStepAnswer : Type 0
+OneStepAnswer = (t : State) (place number findings : ℕ) (r r' : Result StepDone Refusal) → step_sheet t place number findings r ≡ step_sheet t place number findings r' → r ≡ r'
+
 abbrev pub RefusedStepsWriteNothing : Type 0
 RefusedStepsWriteNothing = (W H : ℕ) (page s : List ℕ) (t : State) (place number findings : ℕ) (room : List ℕ) (r : Sheet) (page' room' : List ℕ) (why : Refusal)
     → Stepped W H page s t place number findings room r page' room' → r.verdict ≡ Refused why

@@ -4,4 +4,5 @@ pub mod Laws
 pub mod Sounds
 pub mod Round
 pub mod Bounds
+pub mod Told
 pub mod Theorems

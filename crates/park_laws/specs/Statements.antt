@@ -1,14 +1,16 @@
 -- The theorems on parked texts, as statements. Each is proved in proofs/Theorems.antt; no proof is needed to read them.
-use Rattle.std.specs.Prelude.{◌≡◌, true, false, cond, List, ℕ, ◌≤◌, length, take}
+use Rattle.std.specs.Prelude.{◌≡◌, true, false, cond, List, ℕ, ◌≤◌, Result, length, take}
 use Rattle.rules.specs.declared.Measure.{Measure}
 use Rattle.rules.specs.declared.Sequence.TheVariants.{Closed}
 use Rattle.rules.specs.declared.State.{State}
 use Rattle.rules.specs.Given.{Carried}
+use Rattle.rules.specs.declared.Refusal.{Refusal}
+use Rattle.rules.specs.declared.Stored.{Stored}
 use Rattle.rules.specs.Given.{Unparked}
 use Rattle.rules.specs.Measure.{allowed, measure_of}
 use Rattle.rules.specs.Sound.{sound}
 use Rattle.rules.specs.Forms.{Parked, JOB}
-use Rattle.rules.specs.Park.{write, read, of_lines, parked_sound, given, not_of_form, not_sound, park, no_state, unpark}
+use Rattle.rules.specs.Park.{write, read, of_lines, parked_sound, given, not_of_form, not_sound, park, parking, no_state, unparked, unpark}
 use Rattle.park_laws.specs.Facts.{OfForm, Parkable, Each, IsByte}
 use Rattle.theorems.specs.Facts.{Shaped}
 
@@ -31,6 +33,13 @@ OneText = (s t : List ℕ) (j : Parked) → read JOB s ≡ given j → read JOB 
 
 abbrev pub OneParked : Type 0
 OneParked = (j k : Parked) → Parkable j → Parkable k → write JOB j ≡ write JOB k → j ≡ k
+
+-- and a program's answer is one: two that are said to be one (`parking`, `unparked`) are equal
+abbrev pub OneParkingAnswer : Type 0
+OneParkingAnswer = (r r' : Result ℕ Refusal) → parking r ≡ parking r' → r ≡ r'
+
+abbrev pub OneUnparkedAnswer : Type 0
+OneUnparkedAnswer = (r r' : Result Stored Refusal) → unparked r ≡ unparked r' → r ≡ r'
 
 -- 3. "17 text not of this form": exactly those. A text of the form is read if what it says is allowed and sound, else it is 18.
 pub record Parted (s : List ℕ) : Type 0 where

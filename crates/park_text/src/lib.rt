@@ -70,6 +70,7 @@ fn write_position(p: Spot, out: &mut Writer)
 pub fn write_positions(spots: &[Spot], out: &mut Writer)
     ensures { Written out.old (put_many put_position spots.now []) out.new }
 {
+    out.settle();
     for p in spots {
         write_position(*p, out);
     }

@@ -1,2 +1,2 @@
 -- The laws of this crate.
-mod Answers
+pub mod Answers

@@ -51,9 +51,10 @@ fn has_value(k: Kind) -> bool
 fn write_used(k: Kind, v: Value, out: &mut Writer)
     ensures { Written out.old (put_used k v []) out.new }
 {
-    if has_value(k) {
-        number_write::write_value(v, out);
+    if !has_value(k) {
+        return out.settle();
     }
+    number_write::write_value(v, out);
 }
 
 // A command with its value.

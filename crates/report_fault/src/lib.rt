@@ -30,8 +30,9 @@ pub fn write_refused(why: Refusal, out: &mut Writer)
 pub fn write_fault(place: usize, f: Finding, out: &mut Writer)
     ensures { Written out.old (fault place f []) out.new }
 {
-    if !is_clean(f) {
-        let n = finding_number(f) as usize;
-        write_line(b"FAULT", &[place, n], out);
+    if is_clean(f) {
+        return out.settle();
     }
+    let n = finding_number(f) as usize;
+    write_line(b"FAULT", &[place, n], out);
 }

@@ -18,10 +18,11 @@ pub fn write_page_if(wanted: bool, number: usize, page: &[u8], zeros: usize, out
     requires { (length page.now ≤ 4294967296) × FirstZero zeros page.now }
     ensures { Written out.old (cond wanted (line PAGE (number ∷ ones_all page.now ∷ []) []) []) out.new }
 {
-    if wanted {
-        let dots = dot_page::count_behind(page, zeros);
-        write_line(b"PAGE", &[number, dots], out);
+    if !wanted {
+        return out.settle();
     }
+    let dots = dot_page::count_behind(page, zeros);
+    write_line(b"PAGE", &[number, dots], out);
 }
 
 // END, x, y, stack depth, findings.

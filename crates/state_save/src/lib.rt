@@ -2,7 +2,7 @@
 // Nothing is refused: what has no room is not written.
 #![tactic(auto, using(common::proofs::Writing::written_both))]
 
-ghost use Rattle.std.specs.Prelude.{◌≡◌, [], ◌∷◌};
+ghost use Rattle.std.specs.Prelude.{◌≡◌, [], ◌∷◌, ◌≤◌, length};
 ghost use Rattle.std.proofs.lemmas.List.Edits.{sets};
 ghost use Rattle.common.specs.Choice.{flagged};
 ghost use Rattle.common.specs.Writing.{Written};
@@ -74,6 +74,7 @@ fn put_depth(depth: usize, out: &mut Writer)
 
 // The places of the stack.
 fn put_stack(stack: &[Spot], out: &mut Writer)
+    requires { out.old.at ≤ length out.old.room.now }
     ensures { Written out.old (stack_bytes stack.now) out.new }
 {
     for p in stack {

@@ -130,7 +130,9 @@ fn read_text(s: &[u8]) -> Option<Stored>
 pub fn unpark(s: &[u8]) -> Result<Stored, Refusal>
     ensures { unparked result ≡ unpark s.now }
 {
-    let stored = read_text(s).ok_or(Refusal::TextForm)?;
+    let Some(stored) = read_text(s) else {
+        return Err(Refusal::TextForm);
+    };
     if sound_on(stored.wide, stored.high, stored.state) {
         Ok(stored)
     } else {

@@ -1,5 +1,5 @@
 -- What a text holds, written line by line. Assumes nothing.
-use Rattle.std.proofs.Common.{◌≡◌, refl, ap, ◌∙◌, ℕ, ◌/◌, List, [], ◌∷◌, ◌++◌, take}
+use Rattle.std.proofs.Common.{◌≡◌, refl, ap, ◌∙◌, ℕ, ◌/◌, ◌≤◌, length, List, [], ◌∷◌, ◌++◌, take}
 use Rattle.common.specs.declared.writer.Writer.{Writer}
 use Rattle.common.specs.Writing.{Written}
 use Rattle.common.proofs.Writing.{written_none, written_both}
@@ -25,9 +25,9 @@ unfolding member_lines
 written_member name n more l p q = rw (line_append name (n ∷ []) [] (member_lines more l [])) (written_both p q)
 
 -- none is left
-pub members_written : (a : Writer) → Written a (member_lines [] [] []) a
+pub members_written : (a : Writer) → a.at ≤ length a.room.now → Written a (member_lines [] [] []) a
 unfolding member_lines
-members_written a = written_none a
+members_written a h = written_none a h
 
 -- the members, the positions and the row
 pub written_held : {a b c d : Writer} (w h : ℕ) (t : State) → Written a (member_lines names (give_out JOB.members (parked_of w h t)) []) b

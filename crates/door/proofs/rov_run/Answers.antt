@@ -11,7 +11,7 @@ pub run-requires : goal.run-requires
 run-requires c = none_known _
 
 pub returns-in-Ok : goal.returns-in-Ok
-returns-in-Ok c = answered _ _ _ _ _ _ _ _ _ _ _ _ c.read_state-t.result (carried c.in-Ok.o) c.read_state-t.ensures (rw c.in-Ok.is at c.run.ensures.0) c.finding_number.ensures (search rules) c.write_state.ensures refl
+returns-in-Ok c = answered _ _ _ _ _ _ _ _ _ _ _ _ c.read_state-t.result (carried c.in-Ok.o) c.read_state-t.ensures (rw c.in-Ok.is at c.run.ensures.0) c.finding_number.ensures (search rules) c.keep.ensures refl
 
 pub returns-in-Err : goal.returns-in-Err
 returns-in-Err c =

@@ -5,7 +5,7 @@ use Rattle.number_write.proofs.Writing.{leaving_start, leaving_again, leaving_en
 use Rattle.number_write.proofs.write_places.Goals as goal
 
 pub loop-unit-init : goal.loop-unit-init
-loop-unit-init c = leaving_start _ _ c.requires
+loop-unit-init c = leaving_start _ _ c.requires.0 c.requires.1
 
 pub first_place-requires : goal.first_place-requires
 first_place-requires c = low_first _ _ c.loop-unit-test.true c.loop-unit.invariant.low

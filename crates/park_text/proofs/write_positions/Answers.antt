@@ -4,7 +4,7 @@ use Rattle.park_text.proofs.Writing.{each_start, each_again, each_end}
 use Rattle.park_text.proofs.write_positions.Goals as goal
 
 pub loop-p-init : goal.loop-p-init
-loop-p-init c = each_start _ _ _
+loop-p-init c = each_start _ _ c.settle.ensures
 
 pub loop-p-preserved : goal.loop-p-preserved
 loop-p-preserved c = each_again position_append c.loop-p.invariant _ c.loop-p-test.true c.write_position.ensures

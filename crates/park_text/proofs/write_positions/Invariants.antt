@@ -4,4 +4,4 @@ use Rattle.park_text.proofs.Writing.{Each}
 use Rattle.park_text.proofs.write_positions.Given as goal
 
 abbrev pub invariant-loop-p : goal.invariant-loop-p
-invariant-loop-p l = Each put_position l.initial.out l.spots l.out l.p-index
+invariant-loop-p l = Each put_position l.fn.out l.spots l.out l.p-index

@@ -8,7 +8,7 @@ use Rattle.state_save.proofs.put_stack.Goals as goal
 
 pub loop-p-init : goal.loop-p-init
 unfolding stack_bytes
-loop-p-init c = written_none _
+loop-p-init c = written_none _ c.requires
 
 pub loop-p-preserved : goal.loop-p-preserved
 loop-p-preserved c = rw (next_place c.args.stack.now c.loop-p.p-index origin (omega arith)) (written_both c.loop-p.invariant c.put_spot.ensures)

@@ -1,4 +1,5 @@
 -- `unpark_say::write_members` meets its contract: one member after the other. Assumes nothing.
+use Rattle.common.proofs.Writing.{written_inside}
 use Rattle.unpark_say.proofs.Members.{written_member, members_written}
 use Rattle.unpark_say.proofs.write_members.Goals as goal
 
@@ -21,4 +22,4 @@ returns c =
     (written_member _ _ _ _ (rw e at c.write_line-14.ensures)
     (written_member _ _ _ _ (rw e at c.write_line-15.ensures)
     (written_member _ _ _ _ (rw e at c.write_line-16.ensures)
-    (members_written _)))))))))))))))))
+    (members_written _ (written_inside c.write_line-16.ensures))))))))))))))))))

@@ -4,4 +4,4 @@ use Rattle.common.proofs.writer.Writer.put_all.Given as goal
 
 -- the bytes before the place are written
 abbrev pub invariant-loop-b : goal.invariant-loop-b
-invariant-loop-b l = Written l.initial.self (take l.b-index l.bytes) l.self
+invariant-loop-b l = Written l.fn.self (take l.b-index l.bytes) l.self
