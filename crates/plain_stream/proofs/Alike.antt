@@ -1,7 +1,7 @@
 -- The plain stream hangs on no cursor: cores that differ in it, in the stack's places, the resolution, the graphics margin or whether the page is used
 -- give an item the same meaning, and differ in nothing else behind it. Assumes nothing.
 use mathlib.Core.Path.{◌≡◌, refl, sym, ap, ◌∙◌}
-use mathlib.Core.Bool.{Bool, true, false, cond}
+use mathlib.Core.Bool.{Bool, true, false, cond, false≢true}
 use mathlib.Core.List.{List, [], ◌∷◌}
 use Prim.Native.Nat.{ℕ, ◌+◌}
 use lib.Dec.{eqb}
@@ -25,8 +25,9 @@ use Rattle.rules.specs.Number.{whole_part}
 use Rattle.rules.specs.Commands.{use_of, used_value}
 use Rattle.rules.specs.Items.{Item, text, code, two, command, broken}
 use Rattle.rules.specs.Effects.{pushed, popped, started_at, row_height, effect, barred}
-use Rattle.rules.specs.Codes.{first_line, feeds_on_return, returns_on_feed, typed, typed_all, coded, escaped}
-use Rattle.rules.specs.Acts.{Act, type, control, escape, order, print, draw, drawn, next, next_all, bar, gate, mean_code, mean_two, mean_row, mean_command, mean}
+use Rattle.rules.specs.Codes.{first_line, feeds_on_return, returns_on_feed, typed, typed_all, coded, escaped, code_byte}
+use Rattle.rules.specs.Acts.{Act, type, control, escape, order, print, draw, drawn, next, next_all, beside_after, bar, gate, Meaning, mean_code, mean_two, mean_row, mean_command, mean}
+use Rattle.plain_stream.specs.Staying.{stays}
 
 -- a core without its cursor, its stack's places, its resolution, its graphics margin and whether its page is used: all that an item's meaning looks at
 abbrev pub stripped : Core → Core
@@ -159,3 +160,31 @@ module _ (g : Measure) where
   unfolding next_all
   next_alike [] c d h = h
   next_alike (a ∷ l) c d h = next_alike l (next g a c) (next g a d) (next_strips a c ∙ ap (λ (b : Core). stripped (next g a b)) h ∙ sym (next_strips a d))
+
+-- ---- items that change nothing but the cursor
+module _ (g : Measure) (c : Core) (m : Beside) where
+  -- a meaning that leaves the core alike, and the row method as it was
+  abbrev Staying : Meaning → Type 0
+  Staying o = (stripped (next_all g o.acts c) ≡ stripped c) × (o.beside ≡ m)
+
+  code_stays : (k : Code) → Staying (gate g (control k) c m)
+  unfolding gate bar beside_after next next_all
+  code_stays k = (coded_strips g k c, refl)
+
+  -- that of such an item does
+  pub item_stays : (i : Item) → stays i ≡ true → Staying (mean g i c m)
+  unfolding mean mean_code mean_command gate bar beside_after next next_all typed
+  item_stays (text b) e = (refl, refl)
+  item_stays (code b) e =
+      choice Staying (eqb b (code_byte CarriageReturn)) (code_stays CarriageReturn)
+      (choice Staying (eqb b (code_byte LineFeed)) (code_stays LineFeed)
+      (choice Staying (eqb b (code_byte FormFeed)) (code_stays FormFeed)
+      (choice Staying (eqb b (code_byte Backspace)) (code_stays Backspace)
+      (choice Staying (eqb b (code_byte Tab)) (code_stays Tab) (refl, refl)))))
+  item_stays (two b) e = absurd (false≢true e)
+  item_stays (command (Valued k v) p) e = absurd (false≢true e)
+  item_stays (command (Method v) p) e = absurd (false≢true e)
+  item_stays (command (Print v) p) e = absurd (false≢true e)
+  item_stays (command (Row v) p) e = absurd (false≢true e)
+  item_stays (command Unknown p) e = (refl, refl)
+  item_stays (broken f) e = (refl, refl)

@@ -1,30 +1,30 @@
 -- A stream written plain, item by item. Assumes nothing.
 use mathlib.Core.Path.{◌≡◌, refl, sym, ap, ◌∙◌}
-use mathlib.Core.Bool.{Bool, true, false, cond, false≢true}
+use mathlib.Core.Bool.{Bool, true, false, cond}
 use mathlib.Core.List.{List, [], ◌∷◌, ◌++◌, append-nil, append_assoc}
 use Prim.Native.Nat.{ℕ, zero, suc, ◌+◌, ◌*◌, ◌-◌, ◌≤◌, ◌<◌}
 use native.Mathlib.Omega.{arith}
 use native.Mathlib.Nat.{add-zero}
 use lib.Dec.{ltb}
-use lib.ListN.{length, length-append, take, drop, get_or}
+use lib.ListN.{length, length-append, take, drop, get_or, set}
 use lib.Seq.{length-sets}
 use borrow.Author.Tests.{ltb-true, lt-ltb, le-ltb}
 use Rattle.common.proofs.Choices.{choice}
 use Rattle.common.proofs.Places.{cut}
+use Rattle.common.proofs.Stores.{sets_append}
 use Rattle.rules.specs.declared.Measure.{Measure}
 use Rattle.rules.specs.declared.Sequence.{Sequence}
-use Rattle.rules.specs.declared.Sequence.TheVariants.{Closed, Open}
-use Rattle.rules.specs.declared.Finding.TheVariants.{Nothing}
+use Rattle.rules.specs.declared.Sequence.TheVariants.{Closed}
+use Rattle.rules.specs.declared.Finding.{Finding}
 use Rattle.rules.specs.declared.Core.{Core}
 use Rattle.rules.specs.declared.Beside.{Beside}
 use Rattle.rules.specs.declared.State.{State}
 use Rattle.rules.specs.Sound.{all_zero, sequence_sound}
 use Rattle.rules.specs.Measure.{longest_stream, stack_holds, row_holds}
 use Rattle.rules.specs.States.{state_of, afresh}
-use Rattle.rules.specs.Items.{read}
+use Rattle.rules.specs.Items.{is_text, read}
 use Rattle.rules.specs.Items as rule
-use Rattle.rules.specs.Codes.{typed}
-use Rattle.rules.specs.Acts.{Act, Meaning, next_all, mean, step, is_closed, over}
+use Rattle.rules.specs.Acts.{Act, Meaning, next_all, mean, step, over}
 use Rattle.rules.specs.Run.{trace, enough, whole_stream, acts_of, acts}
 use Rattle.rules.specs.Plain.{put, put_all, plain}
 use Rattle.read_item.specs.declared.ReadItem.{ReadItem}
@@ -34,9 +34,8 @@ use Rattle.read_item.proofs.Places.{read_back}
 use Rattle.state_pen.specs.declared.Pen.{Pen}
 use Rattle.state_pen.specs.Pens.{pen_of, core_of}
 use Rattle.do_deed.specs.declared.Deed.{Deed}
-use Rattle.do_deed.specs.Acted.{Acted, acted_of, acted, page_after, ActedOn}
+use Rattle.do_deed.specs.Acted.{Acted, acted, page_after, ActedOn}
 use Rattle.do_deed.specs.Deeds.{whole_of, DeedOn}
-use Rattle.do_deed.proofs.Acts.{text_done}
 use Rattle.run_items.specs.Turns.{text_next, ItemDone}
 use Rattle.run_items.proofs.Turns.{item_done, over_not, text_told, text_at}
 use Rattle.theorems.specs.Facts.{Fits, Shaped, SoundState}
@@ -46,8 +45,11 @@ use Rattle.theorems.proofs.Soundness.{fresh_sound}
 use Rattle.theorems.proofs.Streams.{step_shaped, step_left}
 use Rattle.theorems.proofs.Sound.{step_sound}
 use Rattle.theorems.proofs.Pages.{step_single}
-use Rattle.plain_stream.proofs.Alike.{stripped, Alike, mean_alike, next_alike}
+use Rattle.plain_stream.proofs.Alike.{stripped, Alike, mean_alike, next_alike, item_stays}
+use Rattle.plain_stream.specs.Staying.{stays}
+use Rattle.plain_stream.specs.Runs.{text_run}
 use Rattle.plain_stream.specs.Walked.{walked_from, walked}
+use Rattle.plain_stream.proofs.Runs.{run_here}
 use Rattle.common.specs.Stores.{Puts}
 use Rattle.plain_item.specs.Plain.{PutsShort, plain_item}
 use Rattle.plain_short.proofs.Bytes.{puts_none, puts_both}
@@ -213,15 +215,6 @@ module _ (g : Measure) (fit : Fits g) (most : ℕ) (s before : List ℕ) (t : St
           sound = step_sound g fit t (drop at s) not_over h.shaped h.sound;
         })
 
--- less is left behind a text byte
-pub text_less : (s : List ℕ) (at : ℕ) (q : Sequence) (x : Bool) → x ≡ text_next s at q → x ≡ true → left q (drop (at + 1) s) < left q (drop at s)
-unfolding left
-text_less s at q x e f = let z = text_told s at q x e f in go q z.inside
-  where
-    go : (r : Sequence) → at < length s → left r (drop (at + 1) s) < left r (drop at s)
-    go Closed l = rw (cut s at l) (omega arith)
-    go (Open first group) l = rw (cut s at l) (omega arith)
-
 -- a walk is under way, in a state that is alike to what the loop keeps: the plain stream hangs on neither the cursor nor the stack's places
 pub record Walking (g : Measure) (most : ℕ) (s before : List ℕ) (n : Pen) (seed : List ℕ) (m : Beside) (q : Sequence) (at : ℕ) (room : List ℕ) (end : ℕ) : Type 0 where
   pub core : Core
@@ -248,26 +241,31 @@ module _ (g : Measure) (fit : Fits g) (most : ℕ) (s before : List ℕ) (n : Pe
   pub walking_long : length seed ≡ row_holds
   walking_long = rw seeds at h.telling.shaped.0
 
-  -- behind a space or a text byte, which moves the cursor
-  pub walking_text : (x : Bool) (room' : List ℕ) (end' : ℕ) → end ≤ most → x ≡ text_next s at q → x ≡ true → Puts room end (get_or s at 0 ∷ []) room' end' → Walking g most s before n seed m q (at + 1) room' end'
-  unfolding plain_item typed
-  walking_text x room' end' w e f p =
-      let z = text_told s at q x e f in
-      let b = get_or s at 0 in
-      let v = p.next in
-      record {
-        core = typed g b h.core;
-        alike = h.alike;
-        telling = go q z.closed h.telling (over_not s at q z.inside) (text_at s at z.inside z.text) (text_done g b h.core (typed g b h.core) m refl []) (record { puts = p; small = omega arith });
-      }
-    where
-      go : (r : Sequence) → r ≡ Closed → Telling g most s before (state_of h.core m r) at room end → false ≡ over (state_of h.core m r) (drop at s)
-          → ItemAt s at Closed (record { item = found.Text (get_or s at 0); sequence = Closed; next = at + 1 })
-          → ActedOn g (mean g (rule.text (get_or s at 0)) h.core m) h.core [] (acted_of (typed g (get_or s at 0) h.core) m Nothing false) [] → PutsShort room end (get_or s at 0 ∷ []) room' end'
-          → Telling g most s before (state_of (typed g (get_or s at 0) h.core) m r) (at + 1) room' end'
-      go Closed e h' v i a q =
-          telling_more g fit most s before (state_of h.core m Closed) at room end h' false v refl (record { item = found.Text (get_or s at 0); sequence = Closed; next = at + 1 }) (acted_of (typed g (get_or s at 0) h.core) m Nothing false) [] [] i a w [] room' end' refl q
-      go (Open first group) e h' v i a q = absurd (false≢true (ap is_closed e))
+  -- behind an item that changes nothing but the cursor
+  module _ (x : Bool) (e : x ≡ over (state_of h.core m q) (drop at s)) (f : x ≡ false) (r : ReadItem) (i : ItemAt s at q r) (k : stays (item_in s r.item) ≡ true) where
+    abbrev met : Meaning
+    met = mean g (item_in s r.item) h.core m
+
+    abbrev left_by : Acted
+    left_by = acted g met h.core []
+
+    left_on : ActedOn g met h.core [] left_by (page_after g met h.core [])
+    left_on = record { given = refl; page = refl }
+
+    -- less is left
+    pub stay_less : left r.sequence (drop r.next s) < left q (drop at s)
+    stay_less = telling_less g fit most s before (state_of h.core m q) at room end h.telling x e f r left_by [] (page_after g met h.core []) i left_on
+
+    pub walking_stays : end ≤ most → (room' : List ℕ) (end' : ℕ) → ((row : List ℕ) (n : Finding) → PutsShort room end (plain_item (item_in s r.item) n row) room' end') → Walking g most s before n seed m r.sequence r.next room' end'
+    unfolding acted
+    walking_stays v room' end' p =
+        let z = item_stays g h.core m (item_in s r.item) k in
+        let c : left_by.beside ≡ m = z.1 in
+        record {
+          core = left_by.core;
+          alike = z.0 ∙ h.alike;
+          telling = rw c at (telling_more g fit most s before (state_of h.core m q) at room end h.telling x e f r left_by [] (page_after g met h.core []) i left_on v [] room' end' refl (p (take g.wide left_by.core.seed) left_by.finding));
+        }
 
   -- an item done on the parts that the loop keeps
   module _ (x : Bool) (e : x ≡ over (state_of h.core m q) (drop at s)) (f : x ≡ false) (r : ReadItem) (d : Deed) (p seed' p' : List ℕ) (i : ItemAt s at q r)
@@ -325,3 +323,29 @@ module _ (g : Measure) (fit : Fits g) (most : ℕ) (s before : List ℕ) (n : Pe
       alike = behind;
       telling = rw (← beside_behind) (telling_more g fit most s before (state_of h.core m q) at room end h.telling x e f r there p (page_after g here h.core p) i there_on v none room' end' y (rw (← finding_behind, ← seed_behind) at w));
     }
+
+-- ---- a run of text
+-- one byte of it
+one_text : (b : ℕ) (room : List ℕ) (end : ℕ) (row : List ℕ) (n : Finding) → PutsShort room end (plain_item (rule.text b) n row) (set room end b) (end + 1)
+unfolding plain_item
+one_text b room end row n = record { puts = record { next = refl; held = refl }; small = omega arith }
+
+module _ (g : Measure) (fit : Fits g) (most : ℕ) (s before : List ℕ) (n : Pen) (seed : List ℕ) (m : Beside) where
+  -- behind k bytes of it: no more than are wanted, and one
+  walking_run : (k at : ℕ) (room : List ℕ) (end : ℕ) → Walking g most s before n seed m Closed at room end → k ≤ text_run (drop at s) → end + k ≤ most + 1
+      → (room' : List ℕ) (end' : ℕ) → Puts room end (take k (drop at s)) room' end' → Walking g most s before n seed m Closed (at + k) room' end'
+  walking_run zero at room end h l v room' end' p = let z : end' ≡ end = omega (arith, p.next) in rw (add-zero at, p.held, z) h
+  walking_run (suc k) at room end h l v room' end' p =
+      let t = run_here s at k (omega arith) in
+      let b = get_or s at 0 in
+      let rest = take k (drop (at + 1) s) in
+      let q : Puts room end (b ∷ rest) room' end' = rw (cut s at t.inside) at p in
+      let d : Puts (set room end b) (end + 1) rest room' end' = record { next = omega (arith, q.next); held = q.held ∙ sym (sets_append room end (b ∷ []) rest) } in
+      let h' =
+      walking_stays g fit most s before n seed m Closed at room end h false (over_not s at Closed t.inside) refl (record { item = found.Text b; sequence = Closed; next = at + 1 }) (text_at s at t.inside t.text) refl (omega arith) (set room end b) (end + 1) (one_text b room end) in
+      let i : at + suc k ≡ (at + 1) + k = omega arith in
+      rw i (walking_run k (at + 1) (set room end b) (end + 1) h' t.more (omega arith) room' end' d)
+
+  pub walking_text : (q : Sequence) (at : ℕ) (room : List ℕ) (end : ℕ) → Walking g most s before n seed m q at room end → (x : Bool) → x ≡ text_next s at q → x ≡ true
+      → (k : ℕ) → k ≤ text_run (drop at s) → end + k ≤ most + 1 → (room' : List ℕ) (end' : ℕ) → Puts room end (take k (drop at s)) room' end' → Walking g most s before n seed m q (at + k) room' end'
+  walking_text q at room end h x e f k l v room' end' p = let z = (text_told s at q x e f).closed in rw z (walking_run k at room end (rw z at h) l v room' end' p)

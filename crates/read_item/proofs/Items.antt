@@ -218,6 +218,6 @@ module _ (s : List ℕ) (at : ℕ) (h : at < length s) (n : get_or s at 0 ≡ 27
 
 module _ (s : List ℕ) (at : ℕ) (q : Sequence) (h : at < length s) where
   -- in an open sequence
-  pub begun_open : (first group : ℕ) → q ≡ Open first group → Begins s (read q (drop at s)) (begun.Sequence (record { first = first; group = group }) at)
+  pub begun_open : (first group : ℕ) → q ≡ Open first group → Begins s (read q (drop at s)) (begun.Sequence first group at)
   unfolding read
   begun_open first group e = rw e (refl, omega arith)

@@ -26,7 +26,6 @@ use Rattle.read_item.specs.declared.Item.TheVariants as found
 use Rattle.read_item.specs.declared.ReadItem.{ReadItem}
 use Rattle.read_item.specs.declared.Begun.{Begun}
 use Rattle.read_item.specs.declared.Begun.TheVariants as begun
-use Rattle.read_letter.specs.declared.Opening.{Opening}
 use Rattle.read_item.specs.Items.{Begins, item_to, read_to, up_to, read_at, item_in, from_of, to_of, held_size, size_in, ItemAt}
 
 -- ---- payload and what is left
@@ -201,6 +200,6 @@ module _ (s : List ℕ) (at : ℕ) (q : Sequence) where
   item_whole b r h f e = item_there r h (rw e at f.0)
 
   -- a sequence whose value was read
-  pub item_valued : (b : Begun) (o : Opening) (from : ℕ) (r : ReadItem) → at < length s → Begins s (read q (drop at s)) b → b ≡ begun.Sequence o from
-      → r ≡ up_to (length s) (parameter o.first o.group (drop from s)) → ItemAt s at q r
-  item_valued b o from r h f e j = item_there r h (j ∙ rw e at f.0)
+  pub item_valued : (b : Begun) (first group from : ℕ) (r : ReadItem) → at < length s → Begins s (read q (drop at s)) b → b ≡ begun.Sequence first group from
+      → r ≡ up_to (length s) (parameter first group (drop from s)) → ItemAt s at q r
+  item_valued b first group from r h f e j = item_there r h (j ∙ rw e at f.0)

@@ -30,12 +30,12 @@ up_to n r = read_to (n - length r.rest) r
 
 -- what a beginning comes to in the stream s: of a sequence a value and what ends it are still to be read
 abbrev pub begun_in : List ℕ → Begun → ReadItem
-begun_in s (begun.Sequence o from) = up_to (length s) (parameter o.first o.group (drop from s))
+begun_in s (begun.Sequence f g from) = up_to (length s) (parameter f g (drop from s))
 begun_in s (begun.Read r) = r
 
 -- where that value begins
 abbrev pub value_from : Begun → ℕ
-value_from (begun.Sequence o from) = from
+value_from (begun.Sequence f g from) = from
 value_from (begun.Read r) = 0
 
 -- b is the beginning of what the rules read, and lies in the stream

@@ -27,18 +27,20 @@ pub enum Item {
     Broken(Finding),
 }
 
-// An item, the sequence that is open behind it, and the place behind it.
+// The place behind an item, the item, and the sequence that is open behind it.
 #[derive(Clone, Copy, PartialEq, Eq)]
 pub struct ReadItem {
+    pub next: usize,
     pub item: Item,
     pub sequence: Sequence,
-    pub next: usize,
 }
 
-// The beginning of an item: a sequence, whose value begins at a place, or an item that is read as a whole.
+// The beginning of an item: a sequence, whose value begins at a place, or an item that is read as a whole. Its first byte and its group are no `Opening`
+// here, `read_item` has the beginning as a local, and `next` is the first of a ReadItem: otherwise the compiler packs bytes and places into words, and who
+// calls unpacks them for each item.
 #[derive(Clone, Copy)]
 enum Begun {
-    Sequence { opening: Opening, from: usize },
+    Sequence { first: u8, group: u8, from: usize },
     Read(ReadItem),
 }
 
@@ -109,11 +111,13 @@ fn group_at(s: &[u8], at: usize, first: u8) -> Begun
     };
     match b {
         96..=126 => Begun::Sequence {
-            opening: Opening { first, group: b },
+            first,
+            group: b,
             from: at + 1,
         },
         _ => Begun::Sequence {
-            opening: Opening { first, group: 0 },
+            first,
+            group: 0,
             from: at,
         },
     }
@@ -177,7 +181,8 @@ fn begun_at(s: &[u8], at: usize, q: Sequence) -> Begun
     match q {
         Sequence::Closed => afresh_at(s, at),
         Sequence::Open { first, group } => Begun::Sequence {
-            opening: Opening { first, group },
+            first,
+            group,
             from: at,
         },
     }
@@ -195,8 +200,9 @@ pub fn read_item(s: &[u8], at: usize, q: Sequence) -> ReadItem
             next: at,
         };
     }
-    match begun_at(s, at, q) {
+    let b = begun_at(s, at, q);
+    match b {
         Begun::Read(r) => r,
-        Begun::Sequence { opening, from } => parameter_at(s, from, opening),
+        Begun::Sequence { first, group, from } => parameter_at(s, from, Opening { first, group }),
     }
 }
