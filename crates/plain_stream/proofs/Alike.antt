@@ -161,7 +161,7 @@ module _ (g : Measure) where
   next_alike [] c d h = h
   next_alike (a ∷ l) c d h = next_alike l (next g a c) (next g a d) (next_strips a c ∙ ap (λ (b : Core). stripped (next g a b)) h ∙ sym (next_strips a d))
 
--- ---- items that change nothing but the cursor
+-- ---- items that change nothing that an item's meaning looks at
 module _ (g : Measure) (c : Core) (m : Beside) where
   -- a meaning that leaves the core alike, and the row method as it was
   abbrev Staying : Meaning → Type 0

@@ -1,4 +1,4 @@
--- Items that change nothing but the cursor, as they are written. Assumes nothing.
+-- Items that change nothing that an item's meaning looks at, as they are written. Assumes nothing.
 use mathlib.Core.Path.{◌≡◌, refl}
 use mathlib.Core.Bool.{true, false≢true}
 use mathlib.Core.List.{List, [], ◌∷◌}

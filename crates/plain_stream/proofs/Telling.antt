@@ -241,7 +241,7 @@ module _ (g : Measure) (fit : Fits g) (most : ℕ) (s before : List ℕ) (n : Pe
   pub walking_long : length seed ≡ row_holds
   walking_long = rw seeds at h.telling.shaped.0
 
-  -- behind an item that changes nothing but the cursor
+  -- behind an item that changes nothing that an item's meaning looks at
   module _ (x : Bool) (e : x ≡ over (state_of h.core m q) (drop at s)) (f : x ≡ false) (r : ReadItem) (i : ItemAt s at q r) (k : stays (item_in s r.item) ≡ true) where
     abbrev met : Meaning
     met = mean g (item_in s r.item) h.core m

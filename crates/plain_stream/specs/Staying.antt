@@ -1,4 +1,4 @@
--- Items that change nothing but the cursor, on which the plain stream does not hang.
+-- Items that change nothing that an item's meaning looks at: the cursor, and whether the page is used.
 use Rattle.std.specs.Prelude.{Bool, true, false}
 use Rattle.rules.specs.declared.Command.TheVariants.{Valued, Method, Print, Row, Unknown}
 use Rattle.rules.specs.Items.{Item, text, code, two, command, broken}

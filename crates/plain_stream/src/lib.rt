@@ -26,29 +26,27 @@ use state_pen::pen_of;
 fn text_run(s: &[u8]) -> usize
     ensures { (result ≡ text_run s.now) × (result ≤ length s.now) }
 {
-    let mut n = 0;
-    for b in s {
+    for (n, b) in s.iter().enumerate() {
         if !is_text(*b) {
             return n;
         }
-        n += 1;
     }
-    n
+    s.len()
 }
 
-// The text at the front, as far as it is wanted: up to the byte with which more than `most` bytes are written. What is given is how many bytes that is.
+// The text at the front, as far as it is wanted: up to the byte with which more than `most` bytes are written, behind which nothing is looked at. What is
+// given is how many bytes that is.
 fn write_text(s: &[u8], room: &mut [u8], end: usize, most: usize) -> usize
     requires { end ≤ most }
     ensures { (result ≡ min (text_run s.now) (most - end + 1)) × Puts room.old end (take result s.now) room.new (end + result) }
 {
-    let run = text_run(s);
-    let wanted = most - end;
-    let n = if run <= wanted { run } else { wanted + 1 };
+    let wanted = (most - end).saturating_add(1);
+    let n = text_run(&s[..wanted.min(s.len())]);
     copy(room, end, s, 0, n);
     n
 }
 
-// Whether an item changes nothing but the cursor.
+// Whether an item changes nothing that an item's meaning looks at. By `matches!` commands take longer (docs/DESIGN-PASS.md).
 fn stays(i: Item) -> bool
     ensures { (s : List ℕ) → result ≡ stays (item_in s i) }
 {
@@ -87,9 +85,9 @@ fn write_done(
     write_item(s, i, f, &seed[..wide], room, at)
 }
 
-// The stream walked from its start, afresh, to its end: what changes nothing but the cursor is written here, all else is done by `do_item`. What is drawn
-// falls on a page of no bytes. What an item means hangs on no cursor, so text and codes do not move the pen here, and there is no stack: a pop leaves the
-// pen where it is, and its depth is what counts. The walk ends early, behind the item with which more than `most` bytes are written.
+// The stream walked from its start, afresh, to its end: what changes nothing that an item's meaning looks at is written here, all else is done by
+// `do_item`. What is drawn falls on a page of no bytes. What an item means hangs on no cursor, so text and codes do not move the pen here, and there is no
+// stack: a pop leaves the pen where it is, and its depth is what counts. The walk ends early, behind the item with which more than `most` bytes are written.
 pub fn write_stream(g: Page, s: &[u8], room: &mut [u8], most: usize) -> usize
     requires { Fits g × (length s.now ≤ longest_stream) }
     ensures { Puts room.old 0 (walked g most s.now) room.new result }

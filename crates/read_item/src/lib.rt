@@ -36,8 +36,8 @@ pub struct ReadItem {
 }
 
 // The beginning of an item: a sequence, whose value begins at a place, or an item that is read as a whole. Its first byte and its group are no `Opening`
-// here, `read_item` has the beginning as a local, and `next` is the first of a ReadItem: otherwise the compiler packs bytes and places into words, and who
-// calls unpacks them for each item.
+// here, and `read_item` has the beginning as a local: otherwise the compiler packs bytes into words, which who calls takes apart for each item. `next` is
+// the first of a ReadItem, where a sequence has its place: otherwise it shares a word with an item's byte, and the next item waits for it.
 #[derive(Clone, Copy)]
 enum Begun {
     Sequence { first: u8, group: u8, from: usize },

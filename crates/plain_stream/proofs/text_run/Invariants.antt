@@ -2,5 +2,5 @@
 use Rattle.plain_stream.proofs.Runs.{Running}
 use Rattle.plain_stream.proofs.text_run.Given as goal
 
-abbrev pub invariant-loop-b : goal.invariant-loop-b
-invariant-loop-b l = Running l.s l.n l.b-index
+abbrev pub invariant-loop-n : goal.invariant-loop-n
+invariant-loop-n l = Running l.s l.n
